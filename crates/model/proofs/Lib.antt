@@ -1,0 +1,12 @@
+pub mod Tests
+pub mod Shut
+pub mod Formed
+pub mod Sound
+pub mod Count
+pub mod Chosen
+pub mod Moves
+pub mod Closings
+pub mod Marked
+pub mod Words
+pub mod Remains
+pub mod Bases

@@ -1,0 +1,13 @@
+pub mod Lines
+pub mod Digits
+pub mod Marks
+pub mod Groups
+pub mod Steps
+pub mod Revising
+pub mod Heeding
+pub mod Walking
+pub mod Turning
+pub mod Starting
+pub mod Filtering
+pub mod Fronts
+pub mod Existing

@@ -1,0 +1,7 @@
+pub mod Waiting
+pub mod Waits
+pub mod Supports
+pub mod Desks
+pub mod Bases
+pub mod Calms
+pub mod Filtered
