@@ -225,4 +225,5 @@ has-more k m q l = go (seek (λ j. has m j && not (has k j)) 64)
             let b = dig-below 64 m j q e in
             elim (and-cases (has m j) (not (has k j)) (f j b)) [
               | inl x ↦ absurd (both-ways (has m j) x (eq-eqb _ _ e))
-              | inr x ↦ has-dig k j (not-false (has k j) x) ]
+              | inr x ↦ has-dig k j (not-false (has k j) x)
+            ]

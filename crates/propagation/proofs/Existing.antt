@@ -73,15 +73,18 @@ module _ (lists : List ℕ) (m : Meaning) (law : Lawful m) (base : List (List �
         one : (c : ℕ) → c < 64 → (family ms (grp v) c ≡ true → c ≡ chan v) ⊎ ((c : ℕ) × (family ms (grp v) c ≡ true) × (c ≡ chan v → ⊥))
         one c l = elim (cases-eq c (chan v)) [
           | inl q ↦ inl (λ _. q)
-          | inr n ↦ elim (cases-bool (family ms (grp v) c)) [ inl t ↦ inr (c, t, n) | inr f ↦ inl (λ t. absurd (both-ways (family ms (grp v) c) f t)) ] ]
+          | inr n ↦ elim (cases-bool (family ms (grp v) c)) [ inl t ↦ inr (c, t, n) | inr f ↦ inl (λ t. absurd (both-ways (family ms (grp v) c) f t)) ]
+        ]
 
     obeys-or : (d : Decision) → ((k : Family) → MT k → Obeys k d) → Obeys (family ms) d ⊎ Loose ms
     obeys-or (taken w) o = elim (only-or w) [
       | inl h ↦ inl h
-      | inr t ↦ inr (grp w, t .0, t .1, λ k mt ins. refuted (k (grp w) (t .0)) (λ q. t .2 (o k mt (t .0) q))) ]
+      | inr t ↦ inr (grp w, t .0, t .1, λ k mt ins. refuted (k (grp w) (t .0)) (λ q. t .2 (o k mt (t .0) q)))
+    ]
     obeys-or (refused w) o = elim (cases-bool (family ms (grp w) (chan w))) [
       | inl t ↦ inr (grp w, chan w, t, λ k mt ins. o k mt)
-      | inr f ↦ inl f ]
+      | inr f ↦ inl f
+    ]
 
     branch-or : All (Obeys (family ms)) branch ⊎ Loose ms
     branch-or = each-of (Obeys (family ms)) branch (taken 0) (λ i l. obeys-or (getD branch i (taken 0)) (λ k mt. all-getD (Obeys k) branch i (taken 0) l (mt .decided)))
@@ -94,21 +97,31 @@ module _ (lists : List ℕ) (m : Meaning) (law : Lawful m) (base : List (List �
           | inr f ↦ inl (λ t. absurd (both-ways (family ms (near s e) a) f t))
           | inl t ↦ elim (seek (λ b. family ms (far s e) b && allows m i s a b) 64) [
             | inl u ↦ (let p = and-parts _ _ (u .2) in inl (λ _. (u .0, p .0, p .1)))
-            | inr n ↦ inr (near s e, a, t, λ k mt ins. refuted (k (near s e) a) (λ q.
-                let u = supports k mt i s e is a q in
-                let r = ins (far s e) (u .0) (u .1) in
-                both-ways (family ms (far s e) (u .0) && allows m i s a (u .0)) (n (u .0) (below (far s e) (u .0) r)) (and-from _ _ r (u .2)))) ] ]
+            | inr n ↦ inr (
+              near s e,
+              a,
+              t,
+              λ k mt ins. refuted (k (near s e) a) (λ q.
+                  let u = supports k mt i s e is a q in
+                  let r = ins (far s e) (u .0) (u .1) in
+                  both-ways (family ms (far s e) (u .0) && allows m i s a (u .0)) (n (u .0) (below (far s e) (u .0) r)) (and-from _ _ r (u .2))),
+            )
+          ]
+        ]
+
         go : (o : Option (ℕ × ℕ)) → m .ends i ≡ o → Supported m (family ms) i s ⊎ Loose ms
         go None is = inl (none-supported m (family ms) i s is)
         go (Some e) is = elim (each (λ (a : ℕ). family ms (near s e) a ≡ true → (b : ℕ) × (family ms (far s e) b ≡ true) × (allows m i s a b ≡ true)) 64 (λ a _. at e is a)) [
           | inr r ↦ inr r
           | inl h ↦ inl (λ e′ is′ a p.
-              subst (λ (y : ℕ × ℕ). family ms (near s y) a ≡ true → (b : ℕ) × (family ms (far s y) b ≡ true) × (allows m i s a b ≡ true)) (same-some (m .ends i) e e′ is is′) (λ q. h a (below (near s e) a q) q) p) ]
+              subst (λ (y : ℕ × ℕ). family ms (near s y) a ≡ true → (b : ℕ) × (family ms (far s y) b ≡ true) × (allows m i s a b ≡ true)) (same-some (m .ends i) e e′ is is′) (λ q. h a (below (near s e) a q) q) p)
+        ]
 
     ends-or : (s : Bool) → ((i : ℕ) → Supported m (family ms) i s) ⊎ Loose ms
     ends-or s = elim (each (λ (i : ℕ). Supported m (family ms) i s) (m .count) (λ i _. end-or i s)) [
       | inr r ↦ inr r
-      | inl h ↦ inl (λ i. elim (cases-lt i (m .count)) [ inl l ↦ h i l | inr l ↦ none-supported m (family ms) i s (law .past i l) ]) ]
+      | inl h ↦ inl (λ i. elim (cases-lt i (m .count)) [ inl l ↦ h i l | inr l ↦ none-supported m (family ms) i s (law .past i l) ])
+    ]
 
     forced-or : (n : List ℕ) (w : ℕ) → Forced (family ms) n w ⊎ (Forced (family ms) n w → ⊥)
     forced-or n w = all-or-not (λ v. v ≢ w → Only (family ms) v) one n
@@ -116,7 +129,8 @@ module _ (lists : List ℕ) (m : Meaning) (law : Lawful m) (base : List (List �
         one : (v : ℕ) → (v ≢ w → Only (family ms) v) ⊎ ((v ≢ w → Only (family ms) v) → ⊥)
         one v = elim (cases-eq v w) [
           | inl q ↦ inl (λ d. absurd (d q))
-          | inr d ↦ elim (only-or v) [ inl o ↦ inl (λ _. o) | inr t ↦ inr (λ f. t .2 (f d (t .0) (t .1))) ] ]
+          | inr d ↦ elim (only-or v) [ inl o ↦ inl (λ _. o) | inr t ↦ inr (λ f. t .2 (f d (t .0) (t .1))) ]
+        ]
 
     heeds-or : (n : List ℕ) → ((k : Family) → MT k → Heeds k n) → Heeds (family ms) n ⊎ Loose ms
     heeds-or n o = each-of (λ w. All (λ v. v ≢ w → Only (family ms) v) n → Gone (family ms) w) n 0 one
@@ -126,7 +140,9 @@ module _ (lists : List ℕ) (m : Meaning) (law : Lawful m) (base : List (List �
           | inr f ↦ inl (λ _. f)
           | inl t ↦ elim (forced-or n (getD n i 0)) [
             | inr d ↦ inl (λ f. absurd (d f))
-            | inl f ↦ inr (grp (getD n i 0), chan (getD n i 0), t, λ k mt ins. heeds-at k n i l (o k mt) (forced-inside k (family ms) n (getD n i 0) ins f)) ] ]
+            | inl f ↦ inr (grp (getD n i 0), chan (getD n i 0), t, λ k mt ins. heeds-at k n i l (o k mt) (forced-inside k (family ms) n (getD n i 0) ins f))
+          ]
+        ]
 
     base-or : All (Heeds (family ms)) base ⊎ Loose ms
     base-or = each-of (Heeds (family ms)) base [] (λ i l. heeds-or (getD base i []) (λ k mt. all-getD (Heeds k) base i [] l (mt .heeded)))
@@ -150,7 +166,8 @@ module _ (lists : List ℕ) (m : Meaning) (law : Lawful m) (base : List (List �
             inside-lists : (g x : ℕ) → family ms g x ≡ true → g < length lists
             inside-lists g x e = elim (cases-lt g (length lists)) [
               | inl l ↦ l
-              | inr l ↦ absurd (both-ways (has 0 x) (has-none x) (subst (λ (y : ℕ). has y x ≡ true) (getD-past lists g 0 l) (ins g x e))) ]
+              | inr l ↦ absurd (both-ways (has 0 x) (has-none x) (subst (λ (y : ℕ). has y x ≡ true) (getD-past lists g 0 l) (ins g x e)))
+            ]
 
   -- the masks without a loose channel
   abbrev Start : List ℕ → Type 0
@@ -160,7 +177,8 @@ module _ (lists : List ℕ) (m : Meaning) (law : Lawful m) (base : List (List �
     here : g < length ms
     here = elim (cases-lt g (length ms)) [
       | inl l ↦ l
-      | inr l ↦ absurd (both-ways (has 0 c) (has-none c) (subst (λ (y : ℕ). has y c ≡ true) (getD-past ms g 0 l) there)) ]
+      | inr l ↦ absurd (both-ways (has 0 c) (has-none c) (subst (λ (y : ℕ). has y c ≡ true) (getD-past ms g 0 l) there))
+    ]
 
     less-falls : sum (set ms g (getD ms g 0 - 2 ^ c)) < sum ms
     less-falls =
@@ -173,7 +191,8 @@ module _ (lists : List ℕ) (m : Meaning) (law : Lawful m) (base : List (List �
     less-small small i = elim (cases-eq i g) [
       | inl q ↦ (let a : getD (set ms g (getD ms g 0 - 2 ^ c)) i 0 ≡ getD ms g 0 - 2 ^ c = subst (λ (y : ℕ). getD (set ms g (getD ms g 0 - 2 ^ c)) y 0 ≡ getD ms g 0 - 2 ^ c) (sym q) (getD-set-same ms g (getD ms g 0 - 2 ^ c) 0 here) in
           let b = small g in omega arith)
-      | inr d ↦ (let a = getD-set-other ms g i (getD ms g 0 - 2 ^ c) 0 d in let b = small i in omega arith) ]
+      | inr d ↦ (let a = getD-set-other ms g i (getD ms g 0 - 2 ^ c) 0 d in let b = small i in omega arith)
+    ]
 
     less-inside : Inside (family (set ms g (getD ms g 0 - 2 ^ c))) (family ms)
     less-inside = set-inside ms g (getD ms g 0 - 2 ^ c) here (cut-inside (getD ms g 0) c (getD ms g 0 - 2 ^ c) (minus-has (getD ms g 0) c there))
@@ -192,9 +211,11 @@ module _ (lists : List ℕ) (m : Meaning) (law : Lawful m) (base : List (List �
   smaller : (ms : List ℕ) → Start ms → Loose ms → (ms′ : List ℕ) × (sum ms′ < sum ms) × Start ms′
   smaller ms st t =
       let g = t .0 in
-      let c = t .1 in
-      (set ms g (getD ms g 0 - 2 ^ c), less-falls ms g c (t .2) (t .3),
-      (less-small ms g c (t .2) (t .3) (st .0), (λ x y e. st .1 x y (less-inside ms g c (t .2) (t .3) x y e)), less-all ms g c (t .2) (t .3) (st .2)))
+      let c = t .1 in (
+        set ms g (getD ms g 0 - 2 ^ c),
+        less-falls ms g c (t .2) (t .3),
+        (less-small ms g c (t .2) (t .3) (st .0), (λ x y e. st .1 x y (less-inside ms g c (t .2) (t .3) x y e)), less-all ms g c (t .2) (t .3) (st .2)),
+      )
 
   -- channels are taken away until the conditions are met
   least : (f : ℕ) (ms : List ℕ) → sum ms ≤ f → Start ms → MT (family ms) ⊎ Loose ms → (k : Family) × Remains lists m base branch k

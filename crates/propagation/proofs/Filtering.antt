@@ -46,7 +46,16 @@ settled-none ms s e = subst (λ (x : List Assignment). Settled ms x) (sym e) (re
 pub calm-all : (m : Meaning) → Lawful m → (ms : List ℕ) (q : List RuleEnd) → ((i : ℕ) (s : Bool) → i < m .count → waits q (at-end i s) ≡ true) → Calm m ms q
 calm-all m law ms q h i s n = elim (cases-lt i (m .count)) [
   | inl l ↦ absurd (both-ways (waits q (at-end i s)) n (h i s l))
-  | inr l ↦ none-supported m (family ms) i s (law .past i l) ]
+  | inr l ↦ none-supported m (family ms) i s (law .past i l)
+]
+
+-- a family that meets the conditions supports all ends and heeds all nogoods
+pub agrees-of : (lists : List ℕ) (m : Meaning) (base : List (List ℕ)) (branch : List Decision) (k : Family) → Meets lists m base branch k → Agrees m base k
+agrees-of lists m base branch k mt = record { supported = both; heeds = mt .heeded }
+  where
+    both : (i : ℕ) (s : Bool) → Supported m k i s
+    both i false e h a p = mt .across i (e .0) (e .1) a h p
+    both i true e h a p = mt .back i (e .0) (e .1) a h p
 
 module _ (lists : List ℕ) (m : Meaning) (base : List (List ℕ)) (ws : List ℕ) (fits : (i : ℕ) → getD lists i 0 < 2 ^ 64) where
   abbrev branch : List Decision
@@ -56,17 +65,11 @@ module _ (lists : List ℕ) (m : Meaning) (base : List (List ℕ)) (ws : List �
   listed g c e = record {
     group = elim (cases-lt g (length lists)) [
       | inl l ↦ l
-      | inr l ↦ absurd (both-ways (has 0 c) (has-none c) (subst (λ (x : ℕ). has x c ≡ true) (getD-past lists g 0 l) e)) ];
+      | inr l ↦ absurd (both-ways (has 0 c) (has-none c) (subst (λ (x : ℕ). has x c ≡ true) (getD-past lists g 0 l) e))
+    ];
     channel = has-below (getD lists g 0) c (fits g) e;
     bit = e;
   }
-
-  pub meets-agrees : (k : Family) → Meets lists m base branch k → Agrees m base k
-  meets-agrees k mt = record { supported = both; heeds = mt .heeded }
-    where
-      both : (i : ℕ) (s : Bool) → Supported m k i s
-      both i false e h a p = mt .across i (e .0) (e .1) a h p
-      both i true e h a p = mt .back i (e .0) (e .1) a h p
 
   pub meets-inside : (k : Family) → Meets lists m base branch k → Inside k (family lists)
   meets-inside k mt g c e = mt .within g c e .bit
@@ -79,11 +82,15 @@ module _ (lists : List ℕ) (m : Meaning) (base : List (List ℕ)) (ws : List �
   Carries ms = (k : Family) → ((i : ℕ) → i < length ws → Obeys k (decision (getD ws i 0))) → Agrees m base k → Inside k (family lists) → Inside k (family ms)
 
   pub all-inside : (ms : List ℕ) → Carries ms → (k : Family) → Meets lists m base branch k → Inside k (family ms)
-  all-inside ms carries k mt = carries k (meets-obeys k mt) (meets-agrees k mt) (meets-inside k mt)
+  all-inside ms carries k mt = carries k (meets-obeys k mt) (agrees-of lists m base branch k mt) (meets-inside k mt)
 
   pub doomed : (ms : List ℕ) → length ms ≡ length lists → Carries ms → Emptied ms → Doomed lists m base branch
-  doomed ms size carries t = (t .0, omega (arith, t .1, size), λ k mt c. refuted (k (t .0) c) (λ e.
-      both-ways (has 0 c) (has-none c) (subst (λ (x : ℕ). has x c ≡ true) (t .2) (all-inside ms carries k mt (t .0) c e))))
+  doomed ms size carries t = (
+    t .0,
+    omega (arith, t .1, size),
+    λ k mt c. refuted (k (t .0) c) (λ e.
+        both-ways (has 0 c) (has-none c) (subst (λ (x : ℕ). has x c ≡ true) (t .2) (all-inside ms carries k mt (t .0) c e))),
+  )
 
   pub lives : (ms : List ℕ) → length ms ≡ length lists → ((i : ℕ) → getD ms i 0 < 2 ^ 64) → Carries ms → Inside (family ms) (family lists)
       → ((i : ℕ) → i < length ws → Obeys (family ms) (decision (getD ws i 0))) → Agrees m base (family ms) → ((g : ℕ) → g < length ms → getD ms g 0 ≡ 0 → ⊥) → Lives lists m base branch ms

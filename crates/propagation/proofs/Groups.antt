@@ -43,7 +43,7 @@ stands-tally [] n o b = tally-none n
 stands-tally (f ∷ s) n o b =
     let k = f .group in
     let t = tally-more (stands s) (stands (f ∷ s)) k n (b k (or-left _ _ (eq-eqb k k refl))) (o .0) (or-left _ _ (eq-eqb k k refl))
-        (λ j m. sym (ap (λ (x : Bool). x || stands s j) (ne-eqb k j (λ p. m (sym p))))) in
+    (λ j m. sym (ap (λ (x : Bool). x || stands s j) (ne-eqb k j (λ p. m (sym p))))) in
     t ∙ ap suc (stands-tally s n (o .1) (λ e h. b e (or-right _ _ h)))
 
 pub stands-few : (s : List Assignment) (n : ℕ) → Alone s → ((g : ℕ) → stands s g ≡ true → g < n) → length s ≤ n
@@ -54,5 +54,6 @@ pub stands-room : (s : List Assignment) (n : ℕ) (f : Assignment) → Alone s �
 stands-room s n f o b h l =
     let r = stands-few (s ++ f ∷ []) n (alone-push s f o h) (λ g e. elim (or-cases (stands s g) (eqb g (f .group)) (sym (stands-push s f g) ∙ e)) [
       | inl k ↦ b g k
-      | inr k ↦ let p = eqb-true g (f .group) k in omega arith ]) in
+      | inr k ↦ let p = eqb-true g (f .group) k in omega arith
+    ]) in
     omega (arith, length-push s f, r)

@@ -27,7 +27,8 @@ use Rattle.propagation.proofs.Steps.{at-same, at-other}
 pub only-if : (ms : List ℕ) (v r : ℕ) → Cut (getD ms (v / 64) 0) (v % 64) r → r ≡ 0 → Only (family ms) v
 only-if ms v r cut z c e = elim (cases-eq c (v % 64)) [
   | inl q ↦ q
-  | inr n ↦ absurd (both-ways (has 0 c) (has-none c) (subst (λ (x : ℕ). has x c ≡ true) z (cut-stays (getD ms (v / 64) 0) (v % 64) r cut c e n))) ]
+  | inr n ↦ absurd (both-ways (has 0 c) (has-none c) (subst (λ (x : ℕ). has x c ≡ true) z (cut-stays (getD ms (v / 64) 0) (v % 64) r cut c e n)))
+]
 
 pub if-only : (ms : List ℕ) (v r : ℕ) → r < 2 ^ 64 → Cut (getD ms (v / 64) 0) (v % 64) r → Only (family ms) v → (r ≡ 0 → ⊥) → ⊥
 if-only ms v r q cut o n =
@@ -77,4 +78,5 @@ gone-heeds k n i l gone some = all-from-getD (λ w. All (λ v. v ≢ w → Only 
     elim (cases-eq (getD n i 0) (getD n j 0)) [
       | inl q ↦ subst (λ (x : ℕ). Gone k x) q gone
       | inr d ↦ (let o = all-getD (λ v. v ≢ getD n j 0 → Only k v) n i 0 l f d in
-          absurd (both-ways (k (grp (getD n i 0)) (some .0)) (subst (λ (x : ℕ). k (grp (getD n i 0)) x ≡ false) (sym (o (some .0) (some .1))) gone) (some .1))) ])
+          absurd (both-ways (k (grp (getD n i 0)) (some .0)) (subst (λ (x : ℕ). k (grp (getD n i 0)) x ≡ false) (sym (o (some .0) (some .1))) gone) (some .1)))
+    ])

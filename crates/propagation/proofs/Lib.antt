@@ -11,3 +11,4 @@ pub mod Starting
 pub mod Filtering
 pub mod Fronts
 pub mod Existing
+pub mod Deciding

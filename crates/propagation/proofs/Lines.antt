@@ -7,9 +7,25 @@ use native.Mathlib.Omega.{arith}
 use native.Mathlib.Numerals.{add-one}
 use lib.ListN.{length, take, drop, getD, set}
 use lib.Seq.{take-set-lt}
-use Rattle.std.proofs.shelf.Lists.{append-nil, append-assoc, length-take, length-drop, length-append,
-    take-all, drop-all, take-append-le, take-set-le, take-more, take-more-set, drop-set-lt, drop-set-add,
-    drop-more, set-append-left, set-append-right, nil-from-length}
+use Rattle.std.proofs.shelf.Lists.{
+  append-nil,
+  append-assoc,
+  length-take,
+  length-drop,
+  length-append,
+  take-all,
+  drop-all,
+  take-append-le,
+  take-set-le,
+  take-more,
+  take-more-set,
+  drop-set-lt,
+  drop-set-add,
+  drop-more,
+  set-append-left,
+  set-append-right,
+  nil-from-length,
+}
 use denote.Ref.{now}
 use Rattle.std.specs.declared.result.Result.{Result}
 use Rattle.std.specs.declared.result.Result.the-variants.{Ok, Err}
@@ -46,8 +62,12 @@ set-turned ps s l at x hs hl (inl (a, e)) =
     rw (e, drop-set-add s ps l x, take-set-le s ps (s + l) x m, set-append-left (drop s ps) (take s ps) l x k)
 set-turned ps s l at x hs hl (inr (a, e)) =
     let k : l - (length ps - s) < s = omega arith in
-    rw (e, drop-set-lt s ps (l - (length ps - s)) x k, take-set-lt s ps (l - (length ps - s)) x k,
-        set-append-right (drop s ps) (take s ps) (length ps - s) l x (length-drop s ps) a)
+    rw (
+      e,
+      drop-set-lt s ps (l - (length ps - s)) x k,
+      take-set-lt s ps (l - (length ps - s)) x k,
+      set-append-right (drop s ps) (take s ps) (length ps - s) l x (length-drop s ps) a,
+    )
 
 pub push-line : {X : Type 0} (ps : List X) (h s l at : ℕ) (x : X) → l < length ps → Start (length ps) h s → Next (length ps) s l at → waiting (set ps at x) s (l + 1) ≡ waiting ps h l ++ (x ∷ [])
 push-line ps h s l at x hl st nx =

@@ -117,7 +117,7 @@ line-tally : (q : List RuleEnd) (n : ℕ) → Once q → ((e : ℕ) → waits q 
 line-tally [] n o b = tally-none n
 line-tally (r ∷ q) n o b =
     let t = tally-more (waits q) (waits (r ∷ q)) (place r) n (b (place r) (or-left _ _ (eq-eqb (place r) (place r) refl))) (o .0) (or-left _ _ (eq-eqb (place r) (place r) refl))
-        (λ j m. sym (ap (λ (x : Bool). x || waits q j) (ne-eqb (place r) j (λ p. m (sym p))))) in
+    (λ j m. sym (ap (λ (x : Bool). x || waits q j) (ne-eqb (place r) j (λ p. m (sym p))))) in
     t ∙ ap suc (line-tally q n (o .1) (λ e h. b e (or-right _ _ h)))
 
 -- ends that wait once and lie below n are at most n
@@ -131,8 +131,9 @@ line-push rules q marks marks′ r l b n m = record {
   same = λ e. waits-push q r e ∙ ap (λ (x : Bool). x || eqb e (place r)) (l .same e) ∙ sym (m e);
   once = once-push q r (l .once) (l .same (place r) ∙ n);
   below = λ e h. elim (or-cases (waits q e) (eqb e (place r)) (sym (waits-push q r e) ∙ h)) [
-      | inl k ↦ l .below e k
-      | inr k ↦ let p = eqb-true e (place r) k in let z = end-below rules (r .rule) (r .second) b in omega arith ];
+    | inl k ↦ l .below e k
+    | inr k ↦ let p = eqb-true e (place r) k in let z = end-below rules (r .rule) (r .second) b in omega arith
+  ];
 }
   where
     end-below : (n i : ℕ) (s : Bool) → i < n → at-end i s < 2 * n
@@ -145,7 +146,8 @@ line-room rules q marks r l b n =
     let w = once-push q r (l .once) (l .same (place r) ∙ n) in
     let f = line-few (q ++ r ∷ []) (2 * rules) w (λ e h. elim (or-cases (waits q e) (eqb e (place r)) (sym (waits-push q r e) ∙ h)) [
       | inl k ↦ l .below e k
-      | inr k ↦ let p = eqb-true e (place r) k in let z = end-below rules (r .rule) (r .second) b in omega arith ]) in
+      | inr k ↦ let p = eqb-true e (place r) k in let z = end-below rules (r .rule) (r .second) b in omega arith
+    ]) in
     omega (arith, length-push q r, f)
   where
     end-below : (n i : ℕ) (s : Bool) → i < n → at-end i s < 2 * n

@@ -32,7 +32,8 @@ module _ (m : Meaning) (ms : List ℕ) (i : ℕ) (s : Bool) (x : ℕ × ℕ) (k 
   pub revise-within : (l : Family) → Supported m l i s → Inside l (family ms) → Inside l (family (set ms (near s x) k))
   revise-within l sup ins g c h = elim (cases-eq g (near s x)) [
     | inl q ↦ at q
-    | inr n ↦ at-other ms (near s x) k here g c n ∙ ins g c h ]
+    | inr n ↦ at-other ms (near s x) k here g c n ∙ ins g c h
+  ]
     where
       at : g ≡ near s x → family (set ms (near s x) k) g c ≡ true
       at q =

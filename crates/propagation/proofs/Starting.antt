@@ -65,4 +65,5 @@ pub all-branch : (P : Decision → Type 0) (ws : List ℕ) (n : ℕ) → All P (
 all-branch P ws zero a i l = absurd (omega arith)
 all-branch P ws (suc n) a i l = elim (cases-eq i n) [
   | inl q ↦ subst (λ (x : ℕ). P (decision (getD ws x 0))) (sym q) (a .0)
-  | inr d ↦ all-branch P ws n (a .1) i (omega arith) ]
+  | inr d ↦ all-branch P ws n (a .1) i (omega arith)
+]

@@ -76,34 +76,39 @@ module _ (ms : List ℕ) (g k : ℕ) (here : g < length ms) where
       shrink-settled s s′ st (inr (c, e, sole)) = subst (λ (x : List Assignment). Settled (set ms g k) x) (sym e) (record {
         alone = alone-push s (assignment g c) (st .alone) (not-standing s st);
         below = λ h q. elim (or-cases (stands s h) (eqb h g) (sym (stands-push s (assignment g c) h) ∙ q)) [
-            | inl z ↦ (let b = st .below h z in let l = length-set ms g k in omega arith)
-            | inr z ↦ (let b = eqb-true h g z in let l = length-set ms g k in omega arith) ];
+          | inl z ↦ (let b = st .below h z in let l = length-set ms g k in omega arith)
+          | inr z ↦ (let b = eqb-true h g z in let l = length-set ms g k in omega arith)
+        ];
         narrow = λ h q. elim (or-cases (stands s h) (eqb h g) (sym (stands-push s (assignment g c) h) ∙ q)) [
-            | inl z ↦ narrow-other s st h z
-            | inr z ↦ subst (λ (x : ℕ). Narrow (set ms g k) x) (sym (eqb-true h g z)) (λ a b p r. sole .1 a (sym (at-same a) ∙ p) ∙ sym (sole .1 b (sym (at-same b) ∙ r))) ];
+          | inl z ↦ narrow-other s st h z
+          | inr z ↦ subst (λ (x : ℕ). Narrow (set ms g k) x) (sym (eqb-true h g z)) (λ a b p r. sole .1 a (sym (at-same a) ∙ p) ∙ sym (sole .1 b (sym (at-same b) ∙ r)))
+        ];
       })
 
       only-back : (v : ℕ) → (grp v ≡ g → Only (family (set ms g k)) v → ⊥) → Only (family (set ms g k)) v → Only (family ms) v
       only-back v n o c e = elim (cases-eq (grp v) g) [
         | inl q ↦ absurd (n q o)
-        | inr d ↦ o c (at-other (grp v) c d ∙ e) ]
+        | inr d ↦ o c (at-other (grp v) c d ∙ e)
+      ]
 
       at-group : (v : ℕ) → grp v ≡ g → Only (family (set ms g k)) v → (c : ℕ) → has k c ≡ true → c ≡ chan v
       at-group v q o c e = o c (subst (λ (x : ℕ). family (set ms g k) x c ≡ true) (sym q) (at-same c ∙ e))
 
       pub shrink-assignments : (s s′ : List Assignment) → Noting g k s s′ → (v : ℕ) → noted s′ v ≡ false → (noted s v ≡ false) × (Only (family (set ms g k)) v → Only (family ms) v)
-      shrink-assignments s s′ (inl (e, two)) v n =
-          (subst (λ (x : List Assignment). noted x v ≡ false) e n,
-          only-back v (λ q o. two .4 (at-group v q o (two .0) (two .2) ∙ sym (at-group v q o (two .1) (two .3)))))
+      shrink-assignments s s′ (inl (e, two)) v n = (
+        subst (λ (x : List Assignment). noted x v ≡ false) e n,
+        only-back v (λ q o. two .4 (at-group v q o (two .0) (two .2) ∙ sym (at-group v q o (two .1) (two .3)))),
+      )
       shrink-assignments s s′ (inr (c, e, sole)) v n =
           let p = or-parts (noted s v) (eqb v (64 * g + c)) (sym (noted-push s (assignment g c) v) ∙ subst (λ (x : List Assignment). noted x v ≡ false) e n) in
           (p .0, only-back v (λ q o. let z = at-group v q o c (sole .0) in eqb-false v (64 * g + c) (p .1) (omega arith)))
 
       pub shrink-ends : (m : Meaning) (q q′ : List RuleEnd) → Still q q′ → ((i : ℕ) → Across m g i q′)
           → (i : ℕ) (s : Bool) → waits q′ (at-end i s) ≡ false → (waits q (at-end i s) ≡ false) × (Supported m (family ms) i s → Supported m (family (set ms g k)) i s)
-      shrink-ends m q q′ still across i s n =
-          (refuted (waits q (at-end i s)) (λ h. both-ways (waits q′ (at-end i s)) n (still (at-end i s) h)),
-          set-supported m i s (λ e h f. both-ways (waits q′ (at-end i s)) n (across i s e h f)))
+      shrink-ends m q q′ still across i s n = (
+        refuted (waits q (at-end i s)) (λ h. both-ways (waits q′ (at-end i s)) n (still (at-end i s) h)),
+        set-supported m i s (λ e h f. both-ways (waits q′ (at-end i s)) n (across i s e h f)),
+      )
 
       pub shrink-falls : sum (set ms g k) < sum ms
       shrink-falls = let e = sumBy-set (λ x. x) ms g k 0 here in omega arith
@@ -111,7 +116,8 @@ module _ (ms : List ℕ) (g k : ℕ) (here : g < length ms) where
 pub set-alive : (ms : List ℕ) (g k : ℕ) → g < length ms → (k ≡ 0 → ⊥) → ((h : ℕ) → h < length ms → getD ms h 0 ≡ 0 → ⊥) → (h : ℕ) → h < length (set ms g k) → getD (set ms g k) h 0 ≡ 0 → ⊥
 set-alive ms g k here n f h l e = elim (cases-eq h g) [
   | inl q ↦ n (sym (getD-set-same ms g k 0 here) ∙ subst (λ (x : ℕ). getD (set ms g k) x 0 ≡ 0) q e)
-  | inr d ↦ f h (let z = length-set ms g k in omega arith) (sym (getD-set-other ms g h k 0 d) ∙ e) ]
+  | inr d ↦ f h (let z = length-set ms g k in omega arith) (sym (getD-set-other ms g h k 0 d) ∙ e)
+]
 
 pub step-same : (m : Meaning) (d : Desk) → Step m d d
 step-same m d = record {

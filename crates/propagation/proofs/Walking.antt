@@ -57,7 +57,7 @@ good-step m d e s n good quiet =
     let before = all-weaker (λ v. noted (e .assignments) v ≡ false) (λ v. noted (d .assignments) v ≡ false) (λ v h. s .assignments v h .0) n quiet in
     all-weaker (λ w. All (λ v. v ≢ w → Only (family (d .masks)) v) n → Gone (family (d .masks)) w) (λ w. All (λ v. v ≢ w → Only (family (e .masks)) v) n → Gone (family (e .masks)) w)
     (λ w h f. let g = h (all-join (λ v. noted (e .assignments) v ≡ false) (λ v. v ≢ w → Only (family (e .masks)) v) (λ v. v ≢ w → Only (family (d .masks)) v) (λ v q o x. s .assignments v q .1 (o x)) n quiet f) in
-        refuted (family (e .masks) (w / 64) _) (λ x. both-ways (family (d .masks) (w / 64) _) g (s .inside (w / 64) _ x)))
+    refuted (family (e .masks) (w / 64) _) (λ x. both-ways (family (d .masks) (w / 64) _) g (s .inside (w / 64) _ x)))
     n (good before)
 
 -- one more part

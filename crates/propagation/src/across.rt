@@ -27,7 +27,13 @@ pub fn add_if(ends: &mut Ring<RuleEnd>, marks: &mut [u32], rules: u32, e: RuleEn
 }
 
 // The ends of rule `i` that have group `g` across go in the line.
-pub fn queue_rule<B: RuleBook>(book: &B, i: u32, g: u16, ends: &mut Ring<RuleEnd>, marks: &mut [u32])
+pub fn queue_rule<B: RuleBook>(
+    book: &B,
+    i: u32,
+    g: u16,
+    ends: &mut Ring<RuleEnd>,
+    marks: &mut [u32],
+)
     requires line { ⌜ Line (meaning (now book) .count) (queued (now ends)) (now marks) ⌝ }
     requires space { ⌜ Space (meaning (now book) .count) (size (now ends)) (now marks) ⌝ }
     ensures sized { λ _. ⌜ size (now (ends .exit)) ≡ size (now (ends .entry)) ⌝ }
@@ -37,8 +43,26 @@ pub fn queue_rule<B: RuleBook>(book: &B, i: u32, g: u16, ends: &mut Ring<RuleEnd
 {
     let rules = book.count();
     if let Some((first, second)) = book.ends(i) {
-        add_if(ends, marks, rules, RuleEnd { rule: i, second: false }, second == g);
-        add_if(ends, marks, rules, RuleEnd { rule: i, second: true }, first == g);
+        add_if(
+            ends,
+            marks,
+            rules,
+            RuleEnd {
+                rule: i,
+                second: false,
+            },
+            second == g,
+        );
+        add_if(
+            ends,
+            marks,
+            rules,
+            RuleEnd {
+                rule: i,
+                second: true,
+            },
+            first == g,
+        );
     }
 }
 

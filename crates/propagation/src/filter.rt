@@ -18,13 +18,13 @@ ghost use Rattle.propagation.specs.Calms.{Agrees};
 ghost use Rattle.propagation.specs.Filtered.{Lives, Dies};
 use super::records::Assignment;
 use super::records::RuleEnd;
+use super::ring::Ring;
 use super::start::add_all;
 use super::start::clear;
 use super::start::decide_all;
 use super::start::some_empty;
 use super::walk::heed_all;
 use super::work::work;
-use super::ring::Ring;
 use rules::book::RuleBook;
 
 // The lists after the decisions. Answers false where a group keeps nothing.

@@ -13,8 +13,8 @@ ghost use Rattle.propagation.specs.Bases.{Grouped, Forced};
 use super::bits::without;
 use super::records::Assignment;
 use super::records::RuleEnd;
-use super::shrink::shrink;
 use super::ring::Ring;
+use super::shrink::shrink;
 use rules::book::RuleBook;
 
 // Whether the group of the assignment keeps no channel but the one fixed.

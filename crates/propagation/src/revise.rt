@@ -8,9 +8,9 @@ ghost use Rattle.propagation.specs.Supports.{near, far, Supported, Inside};
 ghost use Rattle.propagation.specs.Desks.{desk, Held, Step, Emptied};
 use super::records::Assignment;
 use super::records::RuleEnd;
+use super::ring::Ring;
 use super::shrink::shrink;
 use super::support::kept_at;
-use super::ring::Ring;
 use rules::book::RuleBook;
 
 // The group at the end, and the one across.

@@ -23,7 +23,11 @@ impl<'a, T: Copy> Ring<'a, T> {
         ensures sized { λ r. ⌜ now (r .places) ≡ now (places .entry) ⌝ }
         ensures empty { λ r. ⌜ queued r ≡ [] ⌝ }
     {
-        Ring { places, head: 0, len: 0 }
+        Ring {
+            places,
+            head: 0,
+            len: 0,
+        }
     }
 
     // Appends `x`, or gives it back where no place is free.
@@ -38,7 +42,11 @@ impl<'a, T: Copy> Ring<'a, T> {
         }
         let start = if self.head < n { self.head } else { 0 };
         let room = n - start;
-        let at = if self.len < room { start + self.len } else { self.len - room };
+        let at = if self.len < room {
+            start + self.len
+        } else {
+            self.len - room
+        };
         self.places[at] = x;
         self.head = start;
         self.len += 1;

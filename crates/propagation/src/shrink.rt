@@ -22,7 +22,10 @@ pub fn settle(g: u16, keeps: u64, settled: &mut Ring<Assignment>)
 {
     let c = keeps.trailing_zeros() as u8;
     if without(keeps, c) == 0 {
-        let _ = settled.push(Assignment { group: g, channel: c });
+        let _ = settled.push(Assignment {
+            group: g,
+            channel: c,
+        });
     }
 }
 

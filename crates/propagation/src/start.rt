@@ -89,8 +89,24 @@ pub fn add_both(ends: &mut Ring<RuleEnd>, marks: &mut [u32], rules: u32, i: u32)
     ensures still { λ _. ⌜ Still (queued (now (ends .entry))) (queued (now (ends .exit))) ⌝ }
     ensures both { λ _. ⌜ ((s : Bool) → waits (queued (now (ends .exit))) (at-end i s) ≡ true) ⌝ }
 {
-    add(ends, marks, rules, RuleEnd { rule: i, second: false });
-    add(ends, marks, rules, RuleEnd { rule: i, second: true });
+    add(
+        ends,
+        marks,
+        rules,
+        RuleEnd {
+            rule: i,
+            second: false,
+        },
+    );
+    add(
+        ends,
+        marks,
+        rules,
+        RuleEnd {
+            rule: i,
+            second: true,
+        },
+    );
 }
 
 // The ends of all rules.

@@ -13,7 +13,11 @@ use rules::book::RuleBook;
 pub fn allowed<B: RuleBook>(book: &B, rule: u32, second: bool, a: u8, b: u8) -> bool
     ensures { λ r. ⌜ r ≡ allows (meaning (now (book .entry))) rule second a b ⌝ }
 {
-    if second { book.permits(rule, b, a) } else { book.permits(rule, a, b) }
+    if second {
+        book.permits(rule, b, a)
+    } else {
+        book.permits(rule, a, b)
+    }
 }
 
 // Whether some channel across goes with `a`.
@@ -36,7 +40,11 @@ pub fn trimmed<B: RuleBook>(book: &B, rule: u32, second: bool, set: u64, across:
     ensures here { λ r. ⌜ (has r a ≡ true → Backed (meaning (now (book .entry))) rule second across a) ⌝ }
     ensures all { λ r. ⌜ ((j : ℕ) → has set j ≡ true → Backed (meaning (now (book .entry))) rule second across j → has r j ≡ true) ⌝ }
 {
-    if backed(book, rule, second, a, across) { set } else { without(set, a) }
+    if backed(book, rule, second, a, across) {
+        set
+    } else {
+        without(set, a)
+    }
 }
 
 // The channels of `set` that are backed from across.

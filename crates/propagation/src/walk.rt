@@ -100,7 +100,15 @@ pub fn heed_all<B: RuleBook>(
     let mut pos = 0;
     while pos < base.len() {
         let end = part_end(base, pos);
-        if !look_unless(book, just, &base[pos + 1..end], domains, ends, marks, settled) {
+        if !look_unless(
+            book,
+            just,
+            &base[pos + 1..end],
+            domains,
+            ends,
+            marks,
+            settled,
+        ) {
             return false;
         }
         pos = end;

@@ -14,8 +14,8 @@ use super::line::take;
 use super::records::Assignment;
 use super::records::RuleEnd;
 use super::revise::revise;
-use super::walk::heed_all;
 use super::ring::Ring;
+use super::walk::heed_all;
 use rules::book::RuleBook;
 
 // What a turn came to: a group keeps nothing, more may wait, or nothing waits.

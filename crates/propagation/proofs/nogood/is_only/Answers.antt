@@ -10,6 +10,7 @@ returns c =
     let ms = c .args .domains .now in
     let v = c .args .v in
     let r = c .without .result in
-    let b = c .without .ensures .bits in
-    (λ e. only-if ms v r b (eqb-true r 0 e),
-    λ o. elim (cases-eq r 0) [ inl z ↦ eq-eqb r 0 z | inr n ↦ absurd (if-only ms v r (omega (arith, c .without .ok)) b o n) ])
+    let b = c .without .ensures .bits in (
+      λ e. only-if ms v r b (eqb-true r 0 e),
+      λ o. elim (cases-eq r 0) [ inl z ↦ eq-eqb r 0 z | inr n ↦ absurd (if-only ms v r (omega (arith, c .without .ok)) b o n) ],
+    )

@@ -20,6 +20,7 @@ returns c =
 pub returns-then-not-is-only : need.returns-then-not-is-only
 returns-then-not-is-only c =
     let ms = c .args .domains .now in
-    let n = c .args .nogood .now in
-    (λ e. absurd (false≢true e),
-    λ f. absurd (both-ways (c .is-only .result) (c .if-not-is-only .taken) (c .is-only .ensures .1 (all-getD (λ v. v ≢ c .args .w → Only (family ms) v) n (c .loop-k .k) 0 (omega arith) f (c .if-v-w .taken)))))
+    let n = c .args .nogood .now in (
+      λ e. absurd (false≢true e),
+      λ f. absurd (both-ways (c .is-only .result) (c .if-not-is-only .taken) (c .is-only .ensures .1 (all-getD (λ v. v ≢ c .args .w → Only (family ms) v) n (c .loop-k .k) 0 (omega arith) f (c .if-v-w .taken)))),
+    )

@@ -23,8 +23,9 @@ returns-then-without-eq0 c =
     let h = trailing-has m (c .pre .some) fits in
     let q = queued (c .args .settled .now) in
     let sole : (j : ℕ) → has m j ≡ true → j ≡ k = λ j e. elim (cases-eq j k) [
-        | inl z ↦ z
-        | inr n ↦ absurd (both-ways (has 0 j) (has-none j) (subst (λ (x : ℕ). has x j ≡ true) (c .if-without-eq0 .taken) (cut-stays m k (c .without .result) (c .without .ensures .bits) j e n))) ] in
+      | inl z ↦ z
+      | inr n ↦ absurd (both-ways (has 0 j) (has-none j) (subst (λ (x : ℕ). has x j ≡ true) (c .if-without-eq0 .taken) (cut-stays m k (c .without .result) (c .without .ensures .bits) j e n)))
+    ] in
     record {
       sized = c .push .ensures .sized;
       noting = inr (k, either-way (c .push .result) (c .push .ensures .line) (λ _ p. p .1) (λ _ p. absurd (omega (arith, p .1, c .pre .room))), (h, sole));

@@ -29,8 +29,9 @@ loop-a-again g c =
     let i = c .loop-a .inv in
     let t = c .trimmed-rest .ensures in
     let m = g .B·RuleBook .meaning (c .args .book .now) in
-    let r = c .trimmed-rest .result in
-    (omega (arith, t .less, i .0),
-    λ j h. i .1 j (t .inside j h),
-    below-more (λ (j : ℕ). has r j ≡ true → Backed m (c .args .rule) (c .args .second) (c .args .across) j) (c .loop-a .a) (λ j l h. i .2 j l (t .inside j h)) (t .here),
-    λ j h s. t .all j (i .3 j h s) s)
+    let r = c .trimmed-rest .result in (
+      omega (arith, t .less, i .0),
+      λ j h. i .1 j (t .inside j h),
+      below-more (λ (j : ℕ). has r j ≡ true → Backed m (c .args .rule) (c .args .second) (c .args .across) j) (c .loop-a .a) (λ j l h. i .2 j l (t .inside j h)) (t .here),
+      λ j h s. t .all j (i .3 j h s) s,
+    )

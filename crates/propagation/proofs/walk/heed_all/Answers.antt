@@ -53,17 +53,20 @@ loop-pos-again g c =
     let d1 = desk (c .loop-pos .domains) (c .loop-pos .ends) (c .loop-pos .marks) (c .loop-pos .settled) in
     let d2 = desk (c .look-unless .last .domains) (c .look-unless .last .ends) (c .look-unless .last .marks) (c .look-unless .last .settled) in
     let ok = c .if-not-look-unless .left in
-    let step = c .look-unless .ensures .step ok in
-    (c .part-end-end .ensures .within,
-    c .look-unless .ensures .held ok,
-    step-then m d0 d1 d2 (i .2) step,
-    λ k h ins. c .look-unless .ensures .within k (all-mid (Heeds k) (base-of (c .args .base .now)) (i .4 .0) part rest e h) (i .3 k h ins),
-    (i .4 .0 ++ part ∷ [],
-    parts-more (base-of (c .args .base .now)) (i .4 .0) part rest e,
-    all-push (Good (d2 .masks) (d2 .assignments)) (i .4 .0) part
-        (all-weaker (Good (d1 .masks) (d1 .assignments)) (Good (d2 .masks) (d2 .assignments)) (good-step m d1 d2 step) (i .4 .0) (i .4 .2))
-        (c .look-unless .ensures .good ok (all-mid (λ n. Spared (c .args .just) n → Good (d1 .masks) (d1 .assignments) n) (base-of (c .args .base .now)) (i .4 .0) part rest e (i .5)))),
-    all-weaker (λ n. Spared (c .args .just) n → Good (d1 .masks) (d1 .assignments) n) (λ n. Spared (c .args .just) n → Good (d2 .masks) (d2 .assignments) n) (λ n h p. good-step m d1 d2 step n (h p)) (base-of (c .args .base .now)) (i .5))
+    let step = c .look-unless .ensures .step ok in (
+      c .part-end-end .ensures .within,
+      c .look-unless .ensures .held ok,
+      step-then m d0 d1 d2 (i .2) step,
+      λ k h ins. c .look-unless .ensures .within k (all-mid (Heeds k) (base-of (c .args .base .now)) (i .4 .0) part rest e h) (i .3 k h ins),
+      (
+        i .4 .0 ++ part ∷ [],
+        parts-more (base-of (c .args .base .now)) (i .4 .0) part rest e,
+        all-push (Good (d2 .masks) (d2 .assignments)) (i .4 .0) part
+            (all-weaker (Good (d1 .masks) (d1 .assignments)) (Good (d2 .masks) (d2 .assignments)) (good-step m d1 d2 step) (i .4 .0) (i .4 .2))
+            (c .look-unless .ensures .good ok (all-mid (λ n. Spared (c .args .just) n → Good (d1 .masks) (d1 .assignments) n) (base-of (c .args .base .now)) (i .4 .0) part rest e (i .5))),
+      ),
+      all-weaker (λ n. Spared (c .args .just) n → Good (d1 .masks) (d1 .assignments) n) (λ n. Spared (c .args .just) n → Good (d2 .masks) (d2 .assignments) n) (λ n h p. good-step m d1 d2 step n (h p)) (base-of (c .args .base .now)) (i .5),
+    )
 
 pub returns : need.returns
 returns g c =

@@ -109,7 +109,8 @@ returns-then-revise g c =
         held = held;
         going = record {
           calm = calm-looked m d1 d2 e step calm (c .revise .ensures .done ok);
-          good = all-weaker (Good (d1 .masks) (d1 .assignments)) (Good (d2 .masks) (d2 .assignments)) (good-step m d1 d2 step) base good };
+          good = all-weaker (Good (d1 .masks) (d1 .assignments)) (Good (d2 .masks) (d2 .assignments)) (good-step m d1 d2 step) base good;
+        };
         inside = step .inside;
         falls = weight-falls m d0 d1 d2 held step refl (omega (arith, ap length (f .1), ap length same));
       };

@@ -14,10 +14,11 @@ pub returns : need.returns
 returns g c =
     let ps = c .args .self .now .places .now in
     let st : Start (length ps) (c .args .self .now .head) (c .if-self-n .start) =
-        elim (c .if-self-n .came) [ then-self-n w ↦ inl (w .if-self-n .taken, w .start-is) | else-self-n w ↦ inr (w .if-self-n .left, w .start-is) ] in
+    elim (c .if-self-n .came) [ then-self-n w ↦ inl (w .if-self-n .taken, w .start-is) | else-self-n w ↦ inr (w .if-self-n .left, w .start-is) ] in
     let ct : Count (length ps) (c .args .self .now .len) (c .if-self-n-2 .count) =
-        elim (c .if-self-n-2 .came) [ then-self-n-2 w ↦ inl (w .if-self-n-2 .taken, w .count-is) | else-self-n-2 w ↦ inr (w .if-self-n-2 .left, w .count-is) ] in
+    elim (c .if-self-n-2 .came) [ then-self-n-2 w ↦ inl (w .if-self-n-2 .taken, w .count-is) | else-self-n-2 w ↦ inr (w .if-self-n-2 .left, w .count-is) ] in
     record {
       held = refl;
       sized = refl;
-      line = pop-line ps (c .args .self .now .head) (c .if-self-n .start) (c .args .self .now .len) (c .if-self-n-2 .count) (c .index-self-start .result) (omega arith) st (omega arith) ct }
+      line = pop-line ps (c .args .self .now .head) (c .if-self-n .start) (c .args .self .now .len) (c .if-self-n-2 .count) (c .index-self-start .result) (omega arith) st (omega arith) ct;
+    }
