@@ -1,0 +1,6 @@
+pub mod Marks
+pub mod Cuts
+pub mod States
+pub mod Fronts
+pub mod Choices
+pub mod Turning
