@@ -4,3 +4,4 @@ pub mod States
 pub mod Fronts
 pub mod Choices
 pub mod Turning
+pub mod Vets

@@ -3,4 +3,5 @@ pub mod held;
 mod moves;
 mod recording;
 mod turns;
+mod vetting;
 mod words;
