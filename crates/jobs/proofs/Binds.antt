@@ -9,8 +9,9 @@ use lib.ListN.{length, getD, take}
 use Rattle.std.specs.declared.option.Option.{Option}
 use Rattle.std.specs.declared.option.Option.the-variants.{Some, None}
 use Rattle.std.proofs.shelf.Elements.{all-getD}
-use Rattle.std.proofs.shelf.Tests.{cond-true, cond-false, and-from, lt-ltb, le-ltb, le-leb, ne-eqb, not-from-false}
-use Rattle.rules.specs.Meanings.{Meaning, Apart, sound, listed-ends, most}
+use Rattle.std.proofs.shelf.Tests.{cond-true, cond-false, lt-ltb, le-ltb, le-leb}
+use Rattle.rules.specs.Meanings.{Meaning, Apart, most}
+use Rattle.rules.proofs.Entries.{listed-some}
 use Rattle.rules.specs.Gaps.{gaps, no-gap}
 use Rattle.rules.specs.Tables.{tables, no-table}
 use Rattle.rules.specs.Joins.{joined}
@@ -23,20 +24,13 @@ use Rattle.jobs.specs.Laws.{Good}
 use Rattle.jobs.proofs.Goods.{loads-good}
 use Rattle.jobs.specs.Books.{book-at, book-of, Binds, Book-binds, Job-book, Loaded-book}
 
-sound-some : (n : ℕ) (e : ℕ × ℕ) → Apart n e → sound n e ≡ Some e
-sound-some n e a = cond-true _ _ _ (and-from _ _ (lt-ltb (e .0) n (a .0)) (and-from _ _ (lt-ltb (e .1) n (a .1)) (not-from-false _ (ne-eqb (e .0) (e .1) (a .2)))))
-
-listed-some : (n len : ℕ) (pair : ℕ → ℕ × ℕ) (whole : ℕ → Bool) (k : ℕ) → k < len → len ≤ most → whole k ≡ true → Apart n (pair k) → listed-ends n len pair whole k ≡ Some (pair k)
-listed-some n len pair whole k h l w a =
-    cond-true _ _ _ (and-from _ _ (lt-ltb k (min len most) (omega arith)) w) ∙ sound-some n (pair k) a
-
 binds : (bs : List ℕ) (s : State) → Good bs s → Binds bs s
 binds bs s g = record {
   groups = omega arith;
   count = omega (arith, g .rules);
   gaps = λ k h.
       cond-true _ _ _ (lt-ltb k (min (length (s .gaps)) most) (omega (arith, g .rules)))
-      ∙ listed-some (length (s .lists)) (length (s .gaps)) (λ i. (getD (s .gaps) i no-gap .first, getD (s .gaps) i no-gap .second)) (λ _. true) k h (omega (arith, g .rules)) refl
+      ∙ listed-some (length (s .lists)) (length (s .gaps)) (λ i. (getD (s .gaps) i no-gap .first, getD (s .gaps) i no-gap .second)) (λ _. true) k (omega (arith, g .rules)) refl
       (all-getD (λ (e : GapEntry). Apart (length (s .lists)) (e .first, e .second)) (s .gaps) k no-gap h (g .gaps));
   tables = λ k h.
       let q = all-getD (λ (e : TableEntry). Apart (length (s .lists)) (e .first, e .second) × (e .offset + 512 ≤ length bs)) (s .tables) k no-table h (g .tables) in
@@ -45,7 +39,7 @@ binds bs s g = record {
       ∙ (cond-true _ _ _ (lt-ltb (length (s .gaps) + k) most (omega (arith, g .rules)))
       ∙ (ap (tables (length (s .lists)) bs (s .tables) .ends) c
       ∙ listed-some (length (s .lists)) (length (s .tables)) (λ i. (getD (s .tables) i no-table .first, getD (s .tables) i no-table .second))
-      (λ i. leb (getD (s .tables) i no-table .offset + 512) (length bs)) k h (omega (arith, g .rules)) (le-leb _ _ (q .1)) (q .0)));
+      (λ i. leb (getD (s .tables) i no-table .offset + 512) (length bs)) k (omega (arith, g .rules)) (le-leb _ _ (q .1)) (q .0)));
 }
 
 pub book-binds : Book-binds
