@@ -12,6 +12,18 @@ use rules::joined::Joined;
 use rules::table::TableBook;
 use rules::table::TableEntry;
 
+// The first `n` entries, or all where there are fewer.
+fn front<'a, T: Copy>(entries: &'a [T], n: u16) -> &'a [T]
+    ensures { λ r. ⌜ now r ≡ take n (now (entries .entry)) ⌝ }
+{
+    let size = n as usize;
+    if size < entries.len() {
+        &entries[0..size]
+    } else {
+        entries
+    }
+}
+
 // The gaps that a load filled, joined with the tables. Where fewer places are lent than the load
 // counted, the book has what there is.
 pub fn book<'j, 'g, 't>(
@@ -27,17 +39,17 @@ pub fn book<'j, 'g, 't>(
     ensures stands { λ r. ⌜ joined (gapsOf (r .first .groups) (now (r .first .entries))) (tablesOf (r .second .groups) (now (r .second .job)) (now (r .second .entries))) ≡ book-at (now (job .entry)) n (now (gaps .entry)) (now (tables .entry)) ⌝ }
     ensures loaded { λ _. ⌜ Loaded-book ⌝ }
 {
-    let near = gaps.len().min(n.gaps as usize);
-    let far = tables.len().min(n.tables as usize);
+    let near = front(gaps, n.gaps);
+    let far = front(tables, n.tables);
     Joined {
         first: GapBook {
             groups: n.groups,
-            entries: &gaps[0..near],
+            entries: near,
         },
         second: TableBook {
             groups: n.groups,
             job,
-            entries: &tables[0..far],
+            entries: far,
         },
     }
 }

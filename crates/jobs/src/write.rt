@@ -43,7 +43,8 @@ fn add_part(out: &mut Vec<u8>, part: &[u8]) -> Result<(), AllocError>
 fn add_half_word(out: &mut Vec<u8>, v: u16) -> Result<(), AllocError>
     ensures { λ r. ⌜ made r (λ _. vec-items (now (out .exit)) ≡ vec-items (now (out .entry)) ++ bytes 2 v) ⌝ }
 {
-    add_part(out, &v.to_be_bytes())
+    let high_first = v.to_be_bytes();
+    add_part(out, &high_first)
 }
 
 fn add_word(out: &mut Vec<u8>, v: u64) -> Result<(), AllocError>

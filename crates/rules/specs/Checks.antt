@@ -5,8 +5,10 @@ use mathlib.Core.List.{List}
 use Prim.Native.Nat.{ℕ, zero, suc, _≤_, _<_}
 use lib.Dec.{eqb, leb, ltb}
 use lib.ListN.{length, getD}
+use Rattle.std.specs.Results.{Cases}
 use Rattle.std.specs.declared.option.Option.{Option}
 use Rattle.std.specs.declared.option.Option.the-variants.{Some, None}
+use Rattle.std.specs.declared.result.Result.{Result}
 use Rattle.rules.specs.Channels.{has}
 use Rattle.rules.specs.Meanings.{Meaning, Lawful}
 use Rattle.rules.specs.Plans.{Listed, Complete, BreaksAt, Plan}
@@ -54,6 +56,10 @@ abbrev pub check-refusal : List ℕ → Meaning → List ℕ → Option Refusal
 check-refusal lists book x = cond (counts-fit lists book x)
     (or-else (placed-at NotListed (lowest (unlisted lists x) (length lists))) (placed-at RuleBroken (lowest (broken book x) (book .count))))
     (Some Counts)
+
+-- What a check answers: that the plan fits where there is no refusal, else the first.
+abbrev pub Checked : List ℕ → Meaning → List ℕ → Result (Unit {0}) Refusal → Type 0
+Checked lists book x r = Cases r (λ _. check-refusal lists book x ≡ None) (λ f. check-refusal lists book x ≡ Some f)
 
 -- The counts as facts.
 pub record Counted (lists : List ℕ) (book : Meaning) (x : List ℕ) : Type 0 where

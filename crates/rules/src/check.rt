@@ -1,10 +1,8 @@
 // The check of a plan against the lists and a book.
 ghost use mathlib.Core.Path.{_≡_};
 ghost use lib.ListN.{length};
-ghost use Rattle.std.specs.Results.{Cases};
 ghost use Rattle.std.specs.Vec.{made};
-ghost use Rattle.std.specs.declared.option.Option.the-variants.{Some, None};
-ghost use Rattle.rules.specs.Checks.{lowest, counts-fit, channel-in, unlisted, broken as brokenAt, check-refusal};
+ghost use Rattle.rules.specs.Checks.{lowest, counts-fit, channel-in, unlisted, broken as brokenAt, Checked};
 ghost use Rattle.rules.specs.Plans.{Plan};
 use super::book::RuleBook;
 use super::refusal::Refusal;
@@ -64,7 +62,7 @@ fn first_broken<B: RuleBook>(book: &B, plan: &[u8]) -> Option<u32>
 // Whether the bytes, one a group, are a plan of the lists and the book; else the first refusal:
 // the counts, the lowest group whose channel is not listed, the lowest rule broken.
 pub fn check<B: RuleBook>(lists: &[u64], book: &B, plan: &[u8]) -> Result<(), Refusal>
-    ensures answer { λ r. ⌜ Cases r (λ _. check-refusal (now (lists .entry)) (meaning (now (book .entry))) (now (plan .entry)) ≡ None) (λ f. check-refusal (now (lists .entry)) (meaning (now (book .entry))) (now (plan .entry)) ≡ Some f) ⌝ }
+    ensures answer { λ r. ⌜ Checked (now (lists .entry)) (meaning (now (book .entry))) (now (plan .entry)) r ⌝ }
     ensures plan { λ r. ⌜ made r (λ _. Plan (now (lists .entry)) (meaning (now (book .entry))) (now (plan .entry))) ⌝ }
 {
     if !counts_match(lists, book, plan) {
