@@ -1,46 +1,54 @@
 -- Each rule of a loaded job's book binds.
-use mathlib.Core.Path.{_≡_, refl, sym, ap, subst, _∙_}
-use mathlib.Core.Bool.{Bool, true, false, cond, _&&_, not}
+use mathlib.Core.Path.{_≡_, refl, ap, subst, _∙_}
 use mathlib.Core.List.{List}
-use Prim.Native.Nat.{ℕ, min, max, _+_, _-_, _≤_, _<_}
+use Prim.Native.Nat.{ℕ, min, _+_, _-_, _≤_, _<_}
 use native.Mathlib.Omega.{arith}
-use lib.Dec.{eqb, ltb, leb}
 use lib.ListN.{length, getD, take}
-use Rattle.std.specs.declared.option.Option.{Option}
-use Rattle.std.specs.declared.option.Option.the-variants.{Some, None}
 use Rattle.std.proofs.shelf.Elements.{all-getD}
-use Rattle.std.proofs.shelf.Tests.{cond-true, cond-false, lt-ltb, le-ltb, le-leb}
 use Rattle.rules.specs.Meanings.{Meaning, Apart, most}
-use Rattle.rules.proofs.Entries.{listed-some}
+use Rattle.rules.proofs.Entries.{gap-books, table-books, joined-books, permits-like}
+use Rattle.rules.specs.Channels.{Has}
+use Rattle.rules.specs.Laws.{Differ, Permits}
 use Rattle.rules.specs.Gaps.{gaps, no-gap}
-use Rattle.rules.specs.Tables.{tables, no-table}
+use Rattle.rules.specs.Tables.{tables, no-table, row}
 use Rattle.rules.specs.Joins.{joined}
 use Rattle.rules.specs.declared.gap.GapEntry.{GapEntry}
 use Rattle.rules.specs.declared.table.TableEntry.{TableEntry}
 use Rattle.std.proofs.shelf.Lists.{take-at}
 use Rattle.jobs.specs.declared.load.Loaded.{Loaded}
-use Rattle.jobs.specs.Jobs.{State, after, Accepts, Lent, room, over, filled, held, Loads}
+use Rattle.jobs.specs.Jobs.{State, after, Lent, room, over, filled, held}
 use Rattle.jobs.specs.Laws.{Good}
 use Rattle.jobs.proofs.Goods.{loads-good}
-use Rattle.jobs.specs.Books.{book-at, book-of, Binds, Book-binds, Job-book, Loaded-book}
+use Rattle.jobs.specs.Books.{book-at, book-of, Binds, Book-binds, Loaded-book}
 
-binds : (bs : List ℕ) (s : State) → Good bs s → Binds bs s
-binds bs s g = record {
-  groups = omega arith;
-  count = omega (arith, g .rules);
-  gaps = λ k h.
-      cond-true _ _ _ (lt-ltb k (min (length (s .gaps)) most) (omega (arith, g .rules)))
-      ∙ listed-some (length (s .lists)) (length (s .gaps)) (λ i. (getD (s .gaps) i no-gap .first, getD (s .gaps) i no-gap .second)) (λ _. true) k (omega (arith, g .rules)) refl
-      (all-getD (λ (e : GapEntry). Apart (length (s .lists)) (e .first, e .second)) (s .gaps) k no-gap h (g .gaps));
-  tables = λ k h.
+module _ (bs : List ℕ) (s : State) (g : Good bs s) where
+  abbrev near : Meaning
+  near = gaps (length (s .lists)) (s .gaps)
+
+  abbrev far : Meaning
+  far = tables (length (s .lists)) bs (s .tables)
+
+  near-binds : (k : ℕ) → k < length (s .gaps) →
+      Permits (book-of bs s) k (getD (s .gaps) k no-gap .first) (getD (s .gaps) k no-gap .second) (Differ (getD (s .gaps) k no-gap .gap))
+  near-binds k h =
+      let i : k < min (length (s .gaps)) most = omega (arith, g .rules) in
+      let a = all-getD (λ (e : GapEntry). Apart (length (s .lists)) (e .first, e .second)) (s .gaps) k no-gap h (g .gaps) in
+      let j = joined-books near far .first k i in
+      permits-like near (book-of bs s) k k _ _ _ (j .0) (j .1) (gap-books (length (s .lists)) (s .gaps) .binds k i a)
+
+  far-binds : (k : ℕ) → k < length (s .tables) →
+      Permits (book-of bs s) (length (s .gaps) + k) (getD (s .tables) k no-table .first) (getD (s .tables) k no-table .second)
+      (λ a b. Has (row bs (getD (s .tables) k no-table .offset) a) b)
+  far-binds k h =
+      let i : k < min (length (s .tables)) most = omega (arith, g .rules) in
       let q = all-getD (λ (e : TableEntry). Apart (length (s .lists)) (e .first, e .second) × (e .offset + 512 ≤ length bs)) (s .tables) k no-table h (g .tables) in
-      let c : length (s .gaps) + k - min (length (s .gaps)) most ≡ k = omega (arith, g .rules) in
-      cond-false _ _ _ (le-ltb (length (s .gaps) + k) (min (length (s .gaps)) most) (omega arith))
-      ∙ (cond-true _ _ _ (lt-ltb (length (s .gaps) + k) most (omega (arith, g .rules)))
-      ∙ (ap (tables (length (s .lists)) bs (s .tables) .ends) c
-      ∙ listed-some (length (s .lists)) (length (s .tables)) (λ i. (getD (s .tables) i no-table .first, getD (s .tables) i no-table .second))
-      (λ i. leb (getD (s .tables) i no-table .offset + 512) (length bs)) k (omega (arith, g .rules)) (le-leb _ _ (q .1)) (q .0)));
-}
+      let j = joined-books near far .second k (omega (arith, g .rules)) in
+      let e : min (length (s .gaps)) most + k ≡ length (s .gaps) + k = omega (arith, g .rules) in
+      subst (λ n. Permits (book-of bs s) n (getD (s .tables) k no-table .first) (getD (s .tables) k no-table .second) (λ a b. Has (row bs (getD (s .tables) k no-table .offset) a) b)) e
+      (permits-like far (book-of bs s) k (min (length (s .gaps)) most + k) _ _ _ (j .0) (j .1) (table-books (length (s .lists)) bs (s .tables) .binds k i (q .0) (q .1)))
+
+  binds : Binds bs s
+  binds = record { groups = omega arith; count = omega (arith, g .rules); gaps = near-binds; tables = far-binds }
 
 pub book-binds : Book-binds
 book-binds bs m i a = binds bs (after bs i) (loads-good bs m i a .1)

@@ -1,29 +1,26 @@
 -- What was written is read back.
 use mathlib.Core.Path.{_≡_, refl, sym, ap, subst, _∙_}
-use mathlib.Core.Bool.{Bool, true, false, cond, _&&_}
+use mathlib.Core.Bool.{true, false, cond}
 use mathlib.Core.List.{List, [], _∷_, _++_, append-assoc}
 use mathlib.Core.Logic.{⊎-elim}
-use Prim.Native.Nat.{ℕ, zero, suc, _+_, _-_, _≤_, _<_}
+use Prim.Native.Nat.{ℕ, suc, _+_, _-_, _≤_, _<_}
 use native.Mathlib.Nat.{add-zero}
 use native.Mathlib.Omega.{arith}
-use lib.Dec.{eqb, ltb, lit≤}
+use lib.Dec.{eqb, lit≤}
 use lib.ListN.{length, getD, take, drop, length-drop, length-append, length-take}
 use Rattle.std.specs.declared.option.Option.{Option}
 use Rattle.std.specs.declared.option.Option.the-variants.{Some, None}
 use Rattle.std.proofs.shelf.Lists.{getD-drop, drop-drop, take-at, drop-at, append-nil, length-push}
 use Rattle.std.proofs.shelf.Tests.{cond-true, cond-false, and-from, eq-eqb, lt-ltb, le-ltb, true≢false, cases-lt}
-use Rattle.rules.specs.Tables.{number}
-use Rattle.rules.specs.declared.gap.GapEntry.{GapEntry}
-use Rattle.rules.specs.declared.table.TableEntry.{TableEntry}
 use Rattle.jobs.specs.declared.fault.RecordFault.{RecordFault}
 use Rattle.jobs.specs.declared.item.Item.{Item}
 use Rattle.jobs.specs.declared.item.Item.the-variants.{Counts, Channels, Near, Rows}
 use Rattle.jobs.specs.declared.judge.Room.{Room}
 use Rattle.jobs.specs.declared.judge.Seen.{Seen}
-use Rattle.jobs.specs.Records.{kind, size, unread, part}
+use Rattle.jobs.specs.Records.{kind, unread, part}
 use Rattle.jobs.specs.Items.{item, counts, channels, near, rows}
 use Rattle.jobs.specs.Judged.{wrong, fault, onward, or-else, Few}
-use Rattle.jobs.specs.Jobs.{State, start, grown, after, tally, ending, held, filled, room, Lent, Sound, Accepts, Loads}
+use Rattle.jobs.specs.Jobs.{State, start, grown, after, tally, ending, held, filled, room, Sound}
 use Rattle.jobs.proofs.Wholes.{whole}
 use Rattle.jobs.proofs.Steps.{few-more}
 use Rattle.jobs.specs.Writes.{bytes, written, all-written, Writable, moved, told-all, job, Fitting, none, more, one-group, one-rule, Round-trip}

@@ -3,10 +3,11 @@ use mathlib.Core.Path.{_≡_}
 use mathlib.Core.List.{List}
 use Prim.Native.Nat.{ℕ, _+_, _<_}
 use lib.ListN.{length, getD, take}
-use Rattle.std.specs.declared.option.Option.the-variants.{Some}
+use Rattle.rules.specs.Channels.{Has}
+use Rattle.rules.specs.Laws.{Differ, Permits}
 use Rattle.rules.specs.Meanings.{Meaning}
 use Rattle.rules.specs.Gaps.{gaps, no-gap}
-use Rattle.rules.specs.Tables.{tables, no-table}
+use Rattle.rules.specs.Tables.{tables, no-table, row}
 use Rattle.rules.specs.Joins.{joined}
 use Rattle.jobs.specs.declared.judge.Room.{Room}
 use Rattle.rules.specs.declared.gap.GapEntry.{GapEntry}
@@ -23,12 +24,16 @@ book-at bs n gs ts = joined (gaps (n .groups) (take (n .gaps) gs)) (tables (n .g
 abbrev pub book-of : List ℕ → State → Meaning
 book-of bs s = joined (gaps (length (s .lists)) (s .gaps)) (tables (length (s .lists)) bs (s .tables))
 
--- each rule binds, between the two groups that its record has
+-- Rule k is the record k of the gaps, then of the tables: it binds the two groups of its record, and permits
+-- two channels that differ by at least the gap, or whose bit is set in the record's rows.
 pub record Binds (bs : List ℕ) (s : State) : Type 0 where
   pub groups : book-of bs s .groups ≡ length (s .lists)
   pub count : book-of bs s .count ≡ length (s .gaps) + length (s .tables)
-  pub gaps : (k : ℕ) → k < length (s .gaps) → book-of bs s .ends k ≡ Some (getD (s .gaps) k no-gap .first, getD (s .gaps) k no-gap .second)
-  pub tables : (k : ℕ) → k < length (s .tables) → book-of bs s .ends (length (s .gaps) + k) ≡ Some (getD (s .tables) k no-table .first, getD (s .tables) k no-table .second)
+  pub gaps : (k : ℕ) → k < length (s .gaps) →
+      Permits (book-of bs s) k (getD (s .gaps) k no-gap .first) (getD (s .gaps) k no-gap .second) (Differ (getD (s .gaps) k no-gap .gap))
+  pub tables : (k : ℕ) → k < length (s .tables) →
+      Permits (book-of bs s) (length (s .gaps) + k) (getD (s .tables) k no-table .first) (getD (s .tables) k no-table .second)
+      (λ a b. Has (row bs (getD (s .tables) k no-table .offset) a) b)
 
 abbrev pub Book-binds : Type 0
 Book-binds = (bs : List ℕ) (m : Room) (i : ℕ) → Accepts bs m i → Binds bs (after bs i)

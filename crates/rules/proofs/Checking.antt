@@ -1,9 +1,9 @@
 -- What each answer of a check means.
 use mathlib.Core.Path.{_≡_, refl, sym, ap, subst, _∙_}
-use mathlib.Core.Bool.{Bool, true, false, cond, _&&_, not}
+use mathlib.Core.Bool.{Bool, true, false, cond, not}
 use mathlib.Core.List.{List}
 use mathlib.Core.Logic.{⊎-elim}
-use Prim.Native.Nat.{ℕ, _≤_, _<_}
+use Prim.Native.Nat.{ℕ, _<_}
 use native.Mathlib.Omega.{arith}
 use lib.Dec.{eqb, leb, ltb}
 use lib.ListN.{length, getD}
@@ -11,14 +11,14 @@ use Rattle.std.specs.declared.option.Option.{Option}
 use Rattle.std.specs.declared.option.Option.the-variants.{Some, None}
 use Rattle.std.specs.Options.{Cases}
 use Rattle.std.proofs.shelf.Lists.{getD-default}
-use Rattle.std.proofs.shelf.Tests.{false≢true, true≢false, and-parts, and-from, not-false, not-true, not-from-true, not-from-false, ltb-true, lt-ltb, leb-true, le-leb, eqb-true, eq-eqb, cond-true, cases-lt, cases-bool, both-ways}
+use Rattle.std.proofs.shelf.Tests.{false≢true, and-parts, and-from, not-false, not-true, not-from-true, not-from-false, ltb-true, lt-ltb, leb-true, le-leb, eqb-true, eq-eqb, cond-true, cases-lt, cases-bool, both-ways}
 use Rattle.rules.specs.Channels.{has}
 use Rattle.rules.specs.Meanings.{Meaning, Lawful}
 use Rattle.rules.specs.Plans.{Listed, Complete, BreaksAt, Breaks, Plan}
 use Rattle.rules.specs.Checks.{or-else, lowest, placed-at, counts-fit, channel-in, unlisted, broken-by, broken, check-refusal, Counted, FirstUnlisted, FirstBroken, Check-means, Check-finds-plans}
 use Rattle.rules.specs.declared.refusal.Refusal.{Refusal}
 use Rattle.rules.specs.declared.refusal.Refusal.the-variants.{Counts, NotListed, RuleBroken}
-use Rattle.rules.proofs.Firsts.{First, lowest-none, lowest-at, lowest-tells}
+use Rattle.rules.proofs.Firsts.{First, lowest-none, lowest-tells}
 
 -- the answer from its three parts
 abbrev answer : Bool → Option ℕ → Option ℕ → Option Refusal

@@ -1,11 +1,11 @@
 -- What an entry of a list makes of its rule.
 use mathlib.Core.Path.{_≡_, refl, sym, ap, subst, _∙_}
-use mathlib.Core.Bool.{Bool, true, false, cond, _&&_, _||_, not}
+use mathlib.Core.Bool.{Bool, true, false, _&&_}
 use mathlib.Core.List.{List}
 use mathlib.Core.Logic.{⊎-elim}
-use Prim.Native.Nat.{ℕ, min, max, _+_, _-_, _≤_, _<_}
+use Prim.Native.Nat.{ℕ, min, _+_, _-_, _≤_, _<_}
 use native.Mathlib.Omega.{arith}
-use lib.Dec.{eqb, leb, ltb}
+use lib.Dec.{leb, ltb}
 use lib.ListN.{length, getD}
 use Rattle.std.specs.Orderings.{Decides}
 use Rattle.std.specs.Options.{isSome}
@@ -14,9 +14,9 @@ use Rattle.std.specs.declared.option.Option.the-variants.{Some, None}
 use Rattle.std.proofs.shelf.Tests.{cond-true, cond-false, cond-both, and-from, and-left, and-right, or-cases, or-left, or-right, lt-ltb, le-ltb, le-leb, lt-leb, leb-true, eq-eqb, eqb-true, ne-eqb, not-from-true, not-from-false, cases-lt}
 use Rattle.rules.specs.Channels.{has, Has}
 use Rattle.rules.specs.Gaps.{gaps, gaps-lawful, gapped, no-gap}
-use Rattle.rules.specs.Joins.{joined, after}
-use Rattle.rules.specs.Laws.{Differ, Blank, Permits, Gap-laws, Table-laws, Joined-laws, Gap-books, Table-books, Joined-books}
-use Rattle.rules.specs.Meanings.{Meaning, Lawful, Apart, sound, listed, listed-ends, most}
+use Rattle.rules.specs.Joins.{after}
+use Rattle.rules.specs.Laws.{Differ, Blank, Permits, Gap-laws, Table-laws, Gap-books, Table-books, Joined-books}
+use Rattle.rules.specs.Meanings.{Meaning, Lawful, Apart, sound, listed-ends, most}
 use Rattle.rules.specs.Tables.{tables, tables-lawful, no-table, row}
 use Rattle.rules.specs.declared.gap.GapEntry.{GapEntry}
 use Rattle.rules.specs.declared.table.TableEntry.{TableEntry}
@@ -144,4 +144,13 @@ joined-books f s = record {
   count = refl;
   first = λ i h. (after-first (f .count) (f .ends) (s .ends) None i h, λ a b. after-first (f .count) (λ k. f .permits k a b) (λ k. s .permits k a b) false i h);
   second = λ i h. (after-second (f .count) (f .ends) (s .ends) None i h, λ a b. after-second (f .count) (λ k. f .permits k a b) (λ k. s .permits k a b) false i h);
+}
+
+-- a rule that reads as another does what it does
+pub permits-like : (m n : Meaning) (i j g h : ℕ) (P : ℕ → ℕ → Type 0) → n .ends j ≡ m .ends i → ((a b : ℕ) → n .permits j a b ≡ m .permits i a b) →
+    Permits m i g h P → Permits n j g h P
+permits-like m n i j g h P e q p = record {
+  ends = e ∙ p .ends;
+  permits = λ a b k l. subst (λ r. Decides r (P a b)) (sym (q a b)) (p .permits a b k l);
+  high = λ a b r. p .high a b (sym (q a b) ∙ r);
 }

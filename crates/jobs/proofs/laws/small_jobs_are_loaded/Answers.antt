@@ -2,7 +2,7 @@ use mathlib.Core.Path.{refl}
 use Prim.Native.Nat.{ℕ, zero, suc, _<_}
 use native.Mathlib.Omega.{arith}
 use Rattle.jobs.specs.Jobs.{Sound, room}
-use Rattle.jobs.specs.Tries.{Tries, first-job, few-places}
+use Rattle.jobs.specs.Tries.{first-job, few-places}
 use Rattle.jobs.proofs.laws.small_jobs_are_loaded.Needs as need
 
 before : (j : ℕ) → j < 3 → Sound first-job (room few-places) j

@@ -1,5 +1,4 @@
-use borrow.Author.Needs.{needs}
-use mathlib.Core.Path.{_≡_, ap, sym, subst, _∙_}
+use mathlib.Core.Path.{ap, sym, subst}
 use mathlib.Core.List.{List}
 use Prim.Native.Nat.{_+_}
 use native.Mathlib.Omega.{arith}
@@ -8,7 +7,7 @@ use Rattle.std.specs.Of.Vec.{vec-items}
 use Rattle.std.proofs.shelf.Lists.{take-more, take-all}
 use Rattle.jobs.specs.declared.item.Item.{Item}
 use Rattle.jobs.specs.declared.item.Item.the-variants.{Counts}
-use lib.ListN.{take, length, length-take}
+use lib.ListN.{take, length-take}
 use Rattle.jobs.proofs.Trips.{Counted, counted-none, counted-push, told-below}
 use Rattle.jobs.proofs.write.write_items.Needs as need
 

@@ -1,4 +1,3 @@
-use mathlib.Core.Path.{_≡_}
 use lib.ListN.{take}
 use Rattle.std.specs.Of.Vec.{vec-items}
 use Rattle.jobs.proofs.Trips.{Counted}

@@ -1,4 +1,4 @@
-use mathlib.Core.Path.{sym, _∙_}
+use mathlib.Core.Path.{sym}
 use native.Mathlib.Omega.{arith}
 use Rattle.rules.specs.Checks.{broken}
 use Rattle.rules.proofs.Firsts.{lowest-none, lowest-at}
