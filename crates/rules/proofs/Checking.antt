@@ -159,9 +159,3 @@ pub broken-read : (book : Meaning) (x : List ℕ) (i a b : ℕ) (r : Bool) → S
 broken-read book x i a b r e k l p =
     ap not (p ∙ (ap (λ c. book .permits i c (getD x b 0)) (getD-default x a 0 64 k) ∙ ap (λ c. book .permits i (getD x a 64) c) (getD-default x b 0 64 l)))
     ∙ ap (λ (o : Option (ℕ × ℕ)). broken-by o book x i) e
-
-pub check-none : (lists : List ℕ) (book : Meaning) (x : List ℕ) → counts-fit lists book x ≡ true → lowest (unlisted lists x) (length lists) ≡ None →
-    lowest (broken book x) (book .count) ≡ None → check-refusal lists book x ≡ None
-check-none lists book x e u v =
-    cond-true (counts-fit lists book x) _ _ e
-    ∙ (ap (λ (o : Option ℕ). or-else (placed-at NotListed o) (placed-at RuleBroken (lowest (broken book x) (book .count)))) u ∙ ap (placed-at RuleBroken) v)

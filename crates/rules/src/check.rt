@@ -1,8 +1,9 @@
 // The check of a plan against the lists and a book.
 ghost use mathlib.Core.Path.{_≡_};
-ghost use lib.ListN.{length};
+ghost use Prim.Native.Nat.{_<_};
+ghost use lib.ListN.{length, getD};
 ghost use Rattle.std.specs.Vec.{made};
-ghost use Rattle.rules.specs.Checks.{lowest, counts-fit, channel-in, unlisted, broken as brokenAt, Checked};
+ghost use Rattle.rules.specs.Checks.{lowest, counts-fit, channel-in, unlisted, broken as brokenAt, check-refusal, Checked};
 ghost use Rattle.rules.specs.Plans.{Plan};
 use super::book::RuleBook;
 use super::refusal::Refusal;
@@ -35,13 +36,22 @@ fn first_unlisted(lists: &[u64], plan: &[u8]) -> Option<usize>
     None
 }
 
+// Whether a rule permits the channels of two groups, in their order.
+fn permits_pair<B: RuleBook>(book: &B, plan: &[u8], rule: u32, g: u16, h: u16) -> bool
+    requires first { ⌜ g < length (now plan) ⌝ }
+    requires second { ⌜ h < length (now plan) ⌝ }
+    ensures { λ r. ⌜ r ≡ meaning (now (book .entry)) .permits rule (getD (now (plan .entry)) g 0) (getD (now (plan .entry)) h 0) ⌝ }
+{
+    book.permits(rule, plan[g as usize], plan[h as usize])
+}
+
 // Whether a rule binds and does not permit the channels of its two groups.
 fn breaks<B: RuleBook>(book: &B, plan: &[u8], rule: u32) -> bool
     requires { ⌜ meaning (now book) .groups ≡ length (now plan) ⌝ }
     ensures { λ r. ⌜ r ≡ brokenAt (meaning (now (book .entry))) (now (plan .entry)) rule ⌝ }
 {
     match book.ends(rule) {
-        Some((g, h)) => !book.permits(rule, plan[g as usize], plan[h as usize]),
+        Some((g, h)) => !permits_pair(book, plan, rule, g, h),
         None => false,
     }
 }
@@ -59,20 +69,29 @@ fn first_broken<B: RuleBook>(book: &B, plan: &[u8]) -> Option<u32>
     None
 }
 
-// Whether the bytes, one a group, are a plan of the lists and the book; else the first refusal:
-// the counts, the lowest group whose channel is not listed, the lowest rule broken.
+// The first refusal: the counts, the lowest group whose channel is not listed, the lowest rule broken.
+fn first_refusal<B: RuleBook>(lists: &[u64], book: &B, plan: &[u8]) -> Option<Refusal>
+    ensures { λ r. ⌜ r ≡ check-refusal (now (lists .entry)) (meaning (now (book .entry))) (now (plan .entry)) ⌝ }
+{
+    if !counts_match(lists, book, plan) {
+        return Some(Refusal::Counts);
+    }
+    if let Some(g) = first_unlisted(lists, plan) {
+        return Some(Refusal::NotListed(g));
+    }
+    if let Some(rule) = first_broken(book, plan) {
+        return Some(Refusal::RuleBroken(rule as usize));
+    }
+    None
+}
+
+// Whether the bytes, one a group, are a plan of the lists and the book, or the first refusal.
 pub fn check<B: RuleBook>(lists: &[u64], book: &B, plan: &[u8]) -> Result<(), Refusal>
     ensures answer { λ r. ⌜ Checked (now (lists .entry)) (meaning (now (book .entry))) (now (plan .entry)) r ⌝ }
     ensures plan { λ r. ⌜ made r (λ _. Plan (now (lists .entry)) (meaning (now (book .entry))) (now (plan .entry))) ⌝ }
 {
-    if !counts_match(lists, book, plan) {
-        return Err(Refusal::Counts);
+    match first_refusal(lists, book, plan) {
+        Some(r) => Err(r),
+        None => Ok(()),
     }
-    if let Some(g) = first_unlisted(lists, plan) {
-        return Err(Refusal::NotListed(g));
-    }
-    if let Some(rule) = first_broken(book, plan) {
-        return Err(Refusal::RuleBroken(rule as usize));
-    }
-    Ok(())
 }
