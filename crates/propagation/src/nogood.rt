@@ -25,7 +25,7 @@ pub fn is_only(domains: &[u64], v: u32) -> bool
     without(domains[(v / 64) as usize], (v % 64) as u8) == 0
 }
 
-// The channel of a assignment goes.
+// The channel of an assignment goes.
 pub fn remove<B: RuleBook>(
     book: &B,
     v: u32,
@@ -62,18 +62,41 @@ pub fn others_settled(nogood: &[u32], w: u32, domains: &[u64]) -> bool
     true
 }
 
-// A assignment whose others are all settled.
+// The first assignment whose group keeps another channel.
+pub fn unsettled(nogood: &[u32], domains: &[u64]) -> Option<u32>
+    requires { ⌜ Grouped (length (now domains)) (now nogood) ⌝ }
+    ensures { λ r. ⌜ BySome r ((k : ℕ) → k < length (now (nogood .entry)) → Only (family (now (domains .entry))) (getD (now (nogood .entry)) k 0)) (λ w. (k : ℕ) × (k < length (now (nogood .entry))) × (w ≡ getD (now (nogood .entry)) k 0) × (Only (family (now (domains .entry))) w → ⊥)) ⌝ }
+{
+    for k in 0..nogood.len() {
+        let v = nogood[k];
+        if !is_only(domains, v) {
+            return Some(v);
+        }
+    }
+    None
+}
+
+// An assignment whose others are all settled: the one that is not settled itself, or any.
 pub fn forced(nogood: &[u32], domains: &[u64]) -> Option<u32>
     requires { ⌜ Grouped (length (now domains)) (now nogood) ⌝ }
     ensures { λ r. ⌜ BySome r ((k : ℕ) → k < length (now (nogood .entry)) → Forced (family (now (domains .entry))) (now (nogood .entry)) (getD (now (nogood .entry)) k 0) → ⊥) (λ w. (k : ℕ) × (k < length (now (nogood .entry))) × (w ≡ getD (now (nogood .entry)) k 0) × Forced (family (now (domains .entry))) (now (nogood .entry)) w) ⌝ }
 {
-    for k in 0..nogood.len() {
-        let w = nogood[k];
-        if others_settled(nogood, w, domains) {
-            return Some(w);
+    match unsettled(nogood, domains) {
+        Some(w) => {
+            if others_settled(nogood, w, domains) {
+                Some(w)
+            } else {
+                None
+            }
+        }
+        None => {
+            if nogood.len() == 0 {
+                None
+            } else {
+                Some(nogood[0])
+            }
         }
     }
-    None
 }
 
 // The look at one nogood.
