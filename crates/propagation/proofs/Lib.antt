@@ -12,3 +12,4 @@ pub mod Filtering
 pub mod Fronts
 pub mod Existing
 pub mod Deciding
+pub mod Wiring

@@ -16,6 +16,7 @@ ghost use Rattle.model.specs.Words.{base-of};
 ghost use Rattle.propagation.specs.Bases.{Grouped};
 ghost use Rattle.propagation.specs.Calms.{Agrees};
 ghost use Rattle.propagation.specs.Filtered.{Lives, Dies};
+ghost use Rattle.propagation.specs.Wires.{Wired};
 use super::records::Assignment;
 use super::records::RuleEnd;
 use super::ring::Ring;
@@ -24,6 +25,7 @@ use super::start::clear;
 use super::start::decide_all;
 use super::start::some_empty;
 use super::walk::heed_all;
+use super::wires::wire;
 use super::work::work;
 use rules::book::RuleBook;
 
@@ -45,12 +47,14 @@ pub fn prepare(lists: &[u64], branch: &[u32], domains: &mut [u64]) -> bool
 // The rules and the nogoods, with every rule end in line at first.
 pub fn run<B: RuleBook>(
     book: &B,
+    wires: &[u16],
     base: &[u32],
     domains: &mut [u64],
     ends: &mut Ring<RuleEnd>,
     marks: &mut [u32],
     settled: &mut Ring<Assignment>,
 ) -> bool
+    requires wired { ⌜ Wired (meaning (now book)) (now wires) ⌝ }
     requires groups { ⌜ length (now domains) ≡ meaning (now book) .groups ⌝ }
     requires narrow { ⌜ length (now domains) ≤ 65536 ⌝ }
     requires rules { ⌜ meaning (now book) .count ≤ 4096 ⌝ }
@@ -68,16 +72,17 @@ pub fn run<B: RuleBook>(
 {
     clear(marks);
     add_all(ends, marks, book.count());
-    if !heed_all(book, None, base, domains, ends, marks, settled) {
+    if !heed_all(book, wires, None, base, domains, ends, marks, settled) {
         return false;
     }
-    work(book, base, domains, ends, marks, settled)
+    work(book, wires, base, domains, ends, marks, settled)
 }
 
 // The filter over regions of the sizes it needs. Answers false where some group keeps nothing.
 pub fn filter<B: RuleBook>(
     lists: &[u64],
     book: &B,
+    wires: &[u16],
     branch: &[u32],
     base: &[u32],
     domains: &mut [u64],
@@ -85,6 +90,7 @@ pub fn filter<B: RuleBook>(
     ends: &mut [RuleEnd],
     settled: &mut [Assignment],
 ) -> bool
+    requires wired { ⌜ Wired (meaning (now book)) (now wires) ⌝ }
     requires groups { ⌜ length (now lists) ≡ meaning (now book) .groups ⌝ }
     requires size { ⌜ length (now domains) ≡ length (now lists) ⌝ }
     requires narrow { ⌜ length (now lists) ≤ 65536 ⌝ }
@@ -102,7 +108,7 @@ pub fn filter<B: RuleBook>(
     }
     let mut waiting = Ring::over(ends);
     let mut fixed = Ring::over(settled);
-    run(book, base, domains, &mut waiting, marks, &mut fixed)
+    run(book, wires, base, domains, &mut waiting, marks, &mut fixed)
 }
 
 // The same over the regions of a sitting, which may be longer: words beyond the sizes needed are untouched.
@@ -118,7 +124,7 @@ pub fn propagate<B: RuleBook>(
 ) -> bool
     requires groups { ⌜ length (now lists) ≡ meaning (now book) .groups ⌝ }
     requires size { ⌜ length (now lists) ≤ length (now domains) ⌝ }
-    requires narrow { ⌜ length (now lists) ≤ 65536 ⌝ }
+    requires narrow { ⌜ length (now lists) ≤ 200 ⌝ }
     requires rules { ⌜ meaning (now book) .count ≤ 4096 ⌝ }
     requires places { ⌜ 2 * meaning (now book) .count ≤ length (now ends) ⌝ }
     requires slots { ⌜ length (now lists) ≤ length (now settled) ⌝ }
@@ -134,9 +140,12 @@ pub fn propagate<B: RuleBook>(
 {
     let n = lists.len();
     let places = 2 * book.count() as usize;
+    let mut wires = [0u16; 8392];
+    wire(book, &mut wires);
     filter(
         lists,
         book,
+        &wires,
         branch,
         base,
         &mut domains[0..n],

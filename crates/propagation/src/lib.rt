@@ -13,4 +13,5 @@ pub mod start;
 pub mod support;
 pub mod theorems;
 pub mod walk;
+pub mod wires;
 pub mod work;

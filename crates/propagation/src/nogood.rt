@@ -10,6 +10,7 @@ ghost use Rattle.model.specs.Remains.{Family, family, Only, Gone, Heeds};
 ghost use Rattle.propagation.specs.Supports.{Inside};
 ghost use Rattle.propagation.specs.Desks.{desk, Held, Step, Emptied};
 ghost use Rattle.propagation.specs.Bases.{Grouped, Forced};
+ghost use Rattle.propagation.specs.Wires.{Wired};
 use super::bits::without;
 use super::records::Assignment;
 use super::records::RuleEnd;
@@ -28,12 +29,14 @@ pub fn is_only(domains: &[u64], v: u32) -> bool
 // The channel of an assignment goes.
 pub fn remove<B: RuleBook>(
     book: &B,
+    wires: &[u16],
     v: u32,
     domains: &mut [u64],
     ends: &mut Ring<RuleEnd>,
     marks: &mut [u32],
     settled: &mut Ring<Assignment>,
 ) -> bool
+    requires wired { ⌜ Wired (meaning (now book)) (now wires) ⌝ }
     requires held { ⌜ Held (meaning (now book)) (desk (now domains) (now ends) (now marks) (now settled)) ⌝ }
     requires group { ⌜ v / 64 < length (now domains) ⌝ }
     requires narrow { ⌜ length (now domains) ≤ 65536 ⌝ }
@@ -45,7 +48,7 @@ pub fn remove<B: RuleBook>(
 {
     let g = (v / 64) as u16;
     let keeps = without(domains[g as usize], (v % 64) as u8);
-    shrink(book, g, keeps, domains, ends, marks, settled)
+    shrink(book, wires, g, keeps, domains, ends, marks, settled)
 }
 
 // Whether the others are all settled.
@@ -102,12 +105,14 @@ pub fn forced(nogood: &[u32], domains: &[u64]) -> Option<u32>
 // The look at one nogood.
 pub fn look<B: RuleBook>(
     book: &B,
+    wires: &[u16],
     nogood: &[u32],
     domains: &mut [u64],
     ends: &mut Ring<RuleEnd>,
     marks: &mut [u32],
     settled: &mut Ring<Assignment>,
 ) -> bool
+    requires wired { ⌜ Wired (meaning (now book)) (now wires) ⌝ }
     requires held { ⌜ Held (meaning (now book)) (desk (now domains) (now ends) (now marks) (now settled)) ⌝ }
     requires grouped { ⌜ Grouped (length (now domains)) (now nogood) ⌝ }
     requires narrow { ⌜ length (now domains) ≤ 65536 ⌝ }
@@ -119,6 +124,6 @@ pub fn look<B: RuleBook>(
 {
     match forced(nogood, domains) {
         None => true,
-        Some(w) => remove(book, w, domains, ends, marks, settled),
+        Some(w) => remove(book, wires, w, domains, ends, marks, settled),
     }
 }

@@ -20,6 +20,7 @@ resume-requires g c κs =
     let ms = c .args .domains .now in
     let here : getD ws (length ws - 1) 0 / 64 < length ms = omega (arith, c .pre .group, c .pre .size) in
     record {
+      wired = c .pre .wired;
       groups = c .pre .size ∙ c .pre .groups;
       narrow = omega (arith, c .pre .narrow, c .pre .size);
       rules = c .pre .rules;
