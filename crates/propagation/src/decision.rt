@@ -96,7 +96,7 @@ pub fn filter_decision<B: RuleBook>(
     let g = (word / 64) as u16;
     let keeps = alone(domains[g as usize], (word % 64) as u8);
     let mut waiting = Ring::over(ends);
-    let mut fixed = Ring::over(settled);
+    let mut singles = Ring::over(settled);
     resume(
         book,
         wires,
@@ -106,12 +106,12 @@ pub fn filter_decision<B: RuleBook>(
         domains,
         &mut waiting,
         marks,
-        &mut fixed,
+        &mut singles,
     )
 }
 
 // What remains once the newest decision of the branch is taken, where the region has what remained before it.
-// Only what that decision calls for is looked at. Words beyond the sizes needed are untouched.
+// Only what that decision calls for is looked at. Words beyond the sizes needed are untouched. An inner call, like `propagate`.
 pub fn propagate_decision<B: RuleBook>(
     lists: &[u64],
     book: &B,

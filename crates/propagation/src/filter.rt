@@ -7,7 +7,7 @@ ghost use lib.ListN.{length, getD, take, drop};
 ghost use Rattle.std.specs.shelf.Lists.{All};
 ghost use Rattle.propagation.specs.Waiting.{queued, size};
 ghost use Rattle.model.specs.Masks.{grp};
-ghost use Rattle.model.specs.Decisions.{word as fixed};
+ghost use Rattle.model.specs.Decisions.{word as assigned};
 ghost use Rattle.model.specs.Words.{decision, branch-of};
 ghost use Rattle.model.specs.Remains.{Family, family, Obeys};
 ghost use Rattle.propagation.specs.Supports.{Inside};
@@ -32,7 +32,7 @@ use rules::book::RuleBook;
 // The lists after the decisions. Answers false where a group keeps nothing.
 pub fn prepare(lists: &[u64], branch: &[u32], domains: &mut [u64]) -> bool
     requires size { ⌜ length (now domains) ≡ length (now lists) ⌝ }
-    requires groups { ⌜ ((i : ℕ) → i < length (now branch) → grp (fixed (decision (getD (now branch) i 0))) < length (now domains)) ⌝ }
+    requires groups { ⌜ ((i : ℕ) → i < length (now branch) → grp (assigned (decision (getD (now branch) i 0))) < length (now domains)) ⌝ }
     ensures inside { λ _. ⌜ Inside (family (now (domains .exit))) (family (now (lists .entry))) ⌝ }
     ensures obeys { λ _. ⌜ ((i : ℕ) → i < length (now (branch .entry)) → Obeys (family (now (domains .exit))) (decision (getD (now (branch .entry)) i 0))) ⌝ }
     ensures within { λ _. ⌜ ((k : Family) → ((i : ℕ) → i < length (now (branch .entry)) → Obeys k (decision (getD (now (branch .entry)) i 0))) → Inside k (family (now (lists .entry))) → Inside k (family (now (domains .exit)))) ⌝ }
@@ -98,7 +98,7 @@ pub fn filter<B: RuleBook>(
     requires places { ⌜ 2 * meaning (now book) .count ≤ length (now ends) ⌝ }
     requires slots { ⌜ length (now lists) ≤ length (now settled) ⌝ }
     requires words { ⌜ length (now marks) ≡ 256 ⌝ }
-    requires decided { ⌜ ((i : ℕ) → i < length (now branch) → grp (fixed (decision (getD (now branch) i 0))) < length (now lists)) ⌝ }
+    requires decided { ⌜ ((i : ℕ) → i < length (now branch) → grp (assigned (decision (getD (now branch) i 0))) < length (now lists)) ⌝ }
     requires grouped { ⌜ All (Grouped (length (now lists))) (base-of (now base)) ⌝ }
     ensures dead { λ r. ⌜ (r ≡ false → Dies (now (lists .entry)) (meaning (now (book .entry))) (base-of (now (base .entry))) (branch-of (now (branch .entry)) (length (now (branch .entry))))) ⌝ }
     ensures lives { λ r. ⌜ (r ≡ true → Lives (now (lists .entry)) (meaning (now (book .entry))) (base-of (now (base .entry))) (branch-of (now (branch .entry)) (length (now (branch .entry)))) (now (domains .exit))) ⌝ }
@@ -107,11 +107,20 @@ pub fn filter<B: RuleBook>(
         return false;
     }
     let mut waiting = Ring::over(ends);
-    let mut fixed = Ring::over(settled);
-    run(book, wires, base, domains, &mut waiting, marks, &mut fixed)
+    let mut singles = Ring::over(settled);
+    run(
+        book,
+        wires,
+        base,
+        domains,
+        &mut waiting,
+        marks,
+        &mut singles,
+    )
 }
 
-// The same over the regions of a sitting, which may be longer: words beyond the sizes needed are untouched.
+// What remains of the lists, over the regions of a sitting, which may be longer: words beyond the sizes needed are untouched.
+// Answers false where some group keeps nothing. An inner call: the search validates what is required here.
 pub fn propagate<B: RuleBook>(
     lists: &[u64],
     book: &B,
@@ -129,7 +138,7 @@ pub fn propagate<B: RuleBook>(
     requires places { ⌜ 2 * meaning (now book) .count ≤ length (now ends) ⌝ }
     requires slots { ⌜ length (now lists) ≤ length (now settled) ⌝ }
     requires words { ⌜ 256 ≤ length (now marks) ⌝ }
-    requires decided { ⌜ ((i : ℕ) → i < length (now branch) → grp (fixed (decision (getD (now branch) i 0))) < length (now lists)) ⌝ }
+    requires decided { ⌜ ((i : ℕ) → i < length (now branch) → grp (assigned (decision (getD (now branch) i 0))) < length (now lists)) ⌝ }
     requires grouped { ⌜ All (Grouped (length (now lists))) (base-of (now base)) ⌝ }
     ensures dead { λ r. ⌜ (r ≡ false → Dies (now (lists .entry)) (meaning (now (book .entry))) (base-of (now (base .entry))) (branch-of (now (branch .entry)) (length (now (branch .entry))))) ⌝ }
     ensures lives { λ r. ⌜ (r ≡ true → Lives (now (lists .entry)) (meaning (now (book .entry))) (base-of (now (base .entry))) (branch-of (now (branch .entry)) (length (now (branch .entry)))) (take (length (now (lists .entry))) (now (domains .exit)))) ⌝ }

@@ -18,7 +18,7 @@ use super::ring::Ring;
 use super::shrink::shrink;
 use rules::book::RuleBook;
 
-// Whether the group of the assignment keeps no channel but the one fixed.
+// Whether the group of the assignment keeps no channel but its own.
 pub fn is_only(domains: &[u64], v: u32) -> bool
     requires { ⌜ v / 64 < length (now domains) ⌝ }
     ensures { λ r. ⌜ Decides r (Only (family (now (domains .entry))) v) ⌝ }

@@ -8,6 +8,7 @@ ghost use Rattle.propagation.specs.Waiting.{queued, size};
 ghost use Rattle.propagation.specs.Desks.{desk, Held, Step, Noting};
 ghost use Rattle.propagation.specs.Wires.{Wired};
 use super::across::queue_across;
+use super::bits::lowest;
 use super::bits::without;
 use super::records::Assignment;
 use super::records::RuleEnd;
@@ -21,7 +22,7 @@ pub fn settle(g: u16, keeps: u64, settled: &mut Ring<Assignment>)
     ensures sized { λ _. ⌜ size (now (settled .exit)) ≡ size (now (settled .entry)) ⌝ }
     ensures noting { λ _. ⌜ Noting g keeps (queued (now (settled .entry))) (queued (now (settled .exit))) ⌝ }
 {
-    let c = keeps.trailing_zeros() as u8;
+    let c = lowest(keeps);
     if without(keeps, c) == 0 {
         let _ = settled.push(Assignment {
             group: g,
