@@ -1,5 +1,13 @@
 // The search for a plan of a job: its memory, its sittings and its answer.
 ghost use mathlib.Core.Path.{_≡_};
+ghost use Prim.Native.Nat.{_<_, _≤_};
+ghost use lib.ListN.{length};
+ghost use Rattle.std.specs.Of.Vec.{vec-len};
+ghost use Rattle.std.specs.declared.result.Result.the-variants.{Err};
+ghost use Rattle.rules.specs.declared.refusal.Refusal.the-variants.{NoPlace};
+ghost use Rattle.planner.specs.declared.error.PlanError.the-variants.{Refused};
+ghost use Rattle.std.specs.Results.{Cases};
+ghost use Rattle.planner.specs.Answers.{Shaped, Kept, Answered, Unanswered};
 use crate::answer::Answer;
 use crate::answer::Verdict;
 use crate::error::PlanError;
@@ -61,7 +69,9 @@ fn sit<B: RuleBook, O: Order, P: RestartPolicy>(
     policy: &mut P,
     allowance: u32,
     regions: &mut Regions,
-) -> Result<Sat, PlanError> {
+) -> Result<Sat, PlanError>
+    ensures { λ _. ⌜ Kept (now (regions .entry)) (now (regions .exit)) ⌝ }
+{
     let sat = sitting(
         search,
         lists,
@@ -96,7 +106,9 @@ pub fn sit_on<B: RuleBook, O: Order, P: RestartPolicy>(
     policy: &mut P,
     settings: Settings,
     regions: &mut Regions,
-) -> Result<(Found, Counts), PlanError> {
+) -> Result<(Found, Counts), PlanError>
+    ensures { λ _. ⌜ Kept (now (regions .entry)) (now (regions .exit)) ⌝ }
+{
     for _sitting in 0..settings.sittings {
         match sit(
             search,
@@ -116,7 +128,11 @@ pub fn sit_on<B: RuleBook, O: Order, P: RestartPolicy>(
 }
 
 // The answer that the sittings came to, with the plan and the base that they left.
-fn answer(found: Found, counts: Counts, regions: Regions) -> Answer {
+fn answer(found: Found, counts: Counts, regions: Regions) -> Answer
+    ensures verdict { λ r. ⌜ Shaped (vec-len (regions .plan)) (r .verdict) ⌝ }
+    ensures counts { λ r. ⌜ r .counts ≡ counts ⌝ }
+    ensures base { λ r. ⌜ vec-len (r .base) ≡ vec-len (regions .base) ⌝ }
+{
     let Regions {
         domains: _,
         branch: _,
@@ -143,7 +159,9 @@ pub fn solve<O: Order, P: RestartPolicy>(
     order: &mut O,
     policy: &mut P,
     settings: Settings,
-) -> Result<Answer, PlanError> {
+) -> Result<Answer, PlanError>
+    ensures { λ r. ⌜ Cases r (λ a. Answered (now (job .entry)) (settings .«base_words») a) (λ e. Unanswered (now (job .entry)) e) ⌝ }
+{
     let store = load_store(heap, job)?;
     let rules = store.gaps.len() + store.tables.len();
     let mut regions = Regions::new(heap, store.lists.len(), rules, settings.base_words)?;
@@ -155,7 +173,10 @@ pub fn solve<O: Order, P: RestartPolicy>(
 }
 
 // What the program answers to the bytes on its input.
-pub fn plan(heap: Global, job: &[u8]) -> Result<Answer, PlanError> {
+pub fn plan(heap: Global, job: &[u8]) -> Result<Answer, PlanError>
+    ensures long { λ r. ⌜ (65536 < length (now (job .entry)) → r ≡ Err (Refused (NoPlace 65536))) ⌝ }
+    ensures short { λ r. ⌜ (length (now (job .entry)) ≤ 65536 → Cases r (λ a. Answered (now (job .entry)) 4096 a) (λ e. Unanswered (now (job .entry)) e)) ⌝ }
+{
     if job.len() > LONGEST_JOB {
         return Err(PlanError::Refused(Refusal::NoPlace(LONGEST_JOB)));
     }
