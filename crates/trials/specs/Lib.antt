@@ -1,0 +1,2 @@
+pub mod Alternating
+pub mod Highest
