@@ -9,4 +9,5 @@ pub mod Closings
 pub mod Marked
 pub mod Words
 pub mod Remains
+pub mod Largest
 pub mod Bases

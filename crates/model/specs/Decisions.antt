@@ -6,7 +6,7 @@ use mathlib.Core.List.{List, [], _∷_, _++_}
 use Rattle.model.specs.Masks.{grp, chan, Listed}
 use Rattle.std.specs.shelf.Lists.{All}
 
--- A assignment, as its word, taken or refused.
+-- An assignment, as its word, taken or refused.
 pub data Decision : Type 0 where
   taken : ℕ → Decision
   refused : ℕ → Decision

@@ -6,7 +6,7 @@ use mathlib.Core.List.{List}
 use lib.ListN.{length, getD}
 use Rattle.rules.specs.Channels.{has}
 
--- A assignment is the word 64 × group + channel.
+-- An assignment is the word 64 × group + channel.
 abbrev pub grp : ℕ → ℕ
 grp w = w / 64
 

@@ -1,15 +1,15 @@
 -- The laws of runs, for every run from the start.
 use Prim.Native.Nat.{ℕ, _+_, _*_, _<_, _≤_}
 use mathlib.Core.Path.{_≡_}
-use mathlib.Core.Bool.{true}
+use mathlib.Core.Bool.{true, _||_}
 use mathlib.Core.List.{List, [], _∷_}
 use lib.ListN.{length}
 use Rattle.std.specs.shelf.Lists.{All}
 use Rattle.rules.specs.Meanings.{Meaning, Lawful}
-use Rattle.model.specs.Decisions.{taken, refused, reduced, Branch, Nogood}
+use Rattle.model.specs.Decisions.{Decision, taken, refused, reduced, Branch, Nogood}
 use Rattle.model.specs.Words.{branch-of, recorded, base-of}
 use Rattle.model.specs.Choices.{shut, Complete, Breaks, Plan, combinations}
-use Rattle.model.specs.Remains.{Family, Single}
+use Rattle.model.specs.Remains.{Family, Meets, Remains, Single}
 use Rattle.model.specs.Moves.{State, start, nogoods, Left, Reach, Ended-none}
 
 -- What every statement is over: a book for the lists' groups, a room for the base, and a state that a run comes to.
@@ -62,3 +62,12 @@ Remains-one = (lists : List ℕ) (book : Meaning) (s : State) (k l : Family) →
 -- The words of recorded nogoods are read as these nogoods.
 abbrev pub Base-read : Type 0
 Base-read = (ns : List (List ℕ)) → base-of (recorded ns) ≡ ns
+
+-- There is a family that remains, for all lists and every lawful book.
+abbrev pub Remains-exists : Type 0
+Remains-exists = (lists : List ℕ) (book : Meaning) → Lawful book → (base : List (List ℕ)) (branch : List Decision) → (k : Family) × Remains lists book base branch k
+
+-- The conditions are closed under union, so the family that remains is the union of all that meet them.
+abbrev pub Meets-union : Type 0
+Meets-union = (lists : List ℕ) (book : Meaning) (base : List (List ℕ)) (branch : List Decision) (k l : Family)
+    → Meets lists book base branch k → Meets lists book base branch l → Meets lists book base branch (λ g c. k g c || l g c)

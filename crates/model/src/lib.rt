@@ -1,5 +1,5 @@
 // The theorems on runs of the search. Each function's contract is one theorem of specs/Statements.antt; the functions compute nothing.
-ghost use Rattle.model.specs.Statements.{Formed, Branch-bounded, Stays-shut, Sound, None-sound, Plan-sound, Closings-bounded, Moves-bounded, Reduced-example, Remains-one, Base-read};
+ghost use Rattle.model.specs.Statements.{Formed, Branch-bounded, Stays-shut, Sound, None-sound, Plan-sound, Closings-bounded, Moves-bounded, Reduced-example, Remains-one, Remains-exists, Meets-union, Base-read};
 
 // On every run the branch has listed assignments, none twice and none of a group taken before, and the base has nogoods.
 pub fn branch_and_base_are_formed() -> u8
@@ -67,6 +67,20 @@ pub fn nogoods_are_reduced() -> u8
 // What remains is one family.
 pub fn what_remains_is_one() -> u8
     ensures { λ _. ⌜ Remains-one ⌝ }
+{
+    0
+}
+
+// There is a family that remains.
+pub fn what_remains_exists() -> u8
+    ensures { λ _. ⌜ Remains-exists ⌝ }
+{
+    0
+}
+
+// Two families that meet the conditions do so together.
+pub fn conditions_are_closed_under_union() -> u8
+    ensures { λ _. ⌜ Meets-union ⌝ }
 {
     0
 }

@@ -17,13 +17,14 @@ use Rattle.model.specs.Decisions.{Decision}
 use Rattle.model.specs.Words.{decision, branch-of}
 use Rattle.model.specs.Remains.{Family, family, Obeys, Meets, Remains, Alive}
 use Rattle.model.proofs.Tests.{refuted}
+use Rattle.model.proofs.Largest.{filtered, filtered-remains}
 use Rattle.propagation.specs.declared.records.RuleEnd.{RuleEnd}
 use Rattle.propagation.specs.declared.records.Assignment.{Assignment}
 use Rattle.propagation.specs.Waits.{waits, marked, at-end, Line}
 use Rattle.propagation.specs.Supports.{Inside, Supported}
 use Rattle.propagation.specs.Desks.{Emptied, Settled, stands}
 use Rattle.propagation.specs.Calms.{Agrees, Calm}
-use Rattle.propagation.specs.Filtered.{Lives, Doomed}
+use Rattle.propagation.specs.Filtered.{Lives, Doomed, Dies}
 use Rattle.propagation.proofs.Digits.{has-none, has-below, has-some}
 use Rattle.propagation.proofs.Starting.{obeys-inside, branch-all, all-branch}
 use Rattle.propagation.proofs.Revising.{none-supported}
@@ -107,3 +108,9 @@ module _ (lists : List ℕ) (m : Meaning) (base : List (List ℕ)) (ws : List �
     };
     alive = λ g l. has-some (getD ms g 0) (small g) (alive g (omega arith));
   }
+
+-- where some group keeps nothing in any family, it keeps nothing in the largest
+pub doomed-dies : (lists : List ℕ) (m : Meaning) → Lawful m → (base : List (List ℕ)) (branch : List Decision) → Doomed lists m base branch → Dies lists m base branch
+doomed-dies lists m law base branch d =
+    let r = filtered-remains lists m base branch law in
+    (filtered lists m base branch, r, (d .0, d .1, d .2 (filtered lists m base branch) (r .meets)))

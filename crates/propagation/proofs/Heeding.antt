@@ -80,3 +80,14 @@ gone-heeds k n i l gone some = all-from-getD (λ w. All (λ v. v ≢ w → Only 
       | inr d ↦ (let o = all-getD (λ v. v ≢ getD n j 0 → Only k v) n i 0 l f d in
           absurd (both-ways (k (grp (getD n i 0)) (some .0)) (subst (λ (x : ℕ). k (grp (getD n i 0)) x ≡ false) (sym (o (some .0) (some .1))) gone) (some .1)))
     ])
+
+-- where one assignment is not the only one of its group, no other is forced, and it is forced only if its others are settled
+pub forced-one : (k : Family) (n : List ℕ) (w i : ℕ) → i < length n → w ≡ getD n i 0 → (Only k w → ⊥) → (Forced k n w → ⊥) → (j : ℕ) → j < length n → Forced k n (getD n j 0) → ⊥
+forced-one k n w i l e wide f j m h = elim (cases-eq w (getD n j 0)) [
+  | inl q ↦ f (subst (λ (x : ℕ). Forced k n x) (sym q) h)
+  | inr d ↦ wide (subst (λ (x : ℕ). x ≢ getD n j 0 → Only k x) (sym e) (all-getD (λ v. v ≢ getD n j 0 → Only k v) n i 0 l h) d)
+]
+
+-- where all are, each is forced
+pub all-forced : (k : Family) (n : List ℕ) (w : ℕ) → ((i : ℕ) → i < length n → Only k (getD n i 0)) → Forced k n w
+all-forced k n w h = all-from-getD (λ v. v ≢ w → Only k v) n 0 (λ i l _. h i l)

@@ -10,5 +10,5 @@ pub mod Turning
 pub mod Starting
 pub mod Filtering
 pub mod Fronts
-pub mod Existing
 pub mod Deciding
+pub mod Wiring

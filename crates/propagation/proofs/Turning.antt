@@ -67,7 +67,7 @@ pub calm-step : (m : Meaning) (d e : Desk) → Step m d e → Calm m (d .masks) 
 calm-step m d e s c i b h = let u = s .ends i b h in u .1 (c i b (u .0))
 
 -- the end that a number stands for
-same-end : (i j : ℕ) (s t : Bool) → at-end i s ≡ at-end j t → (i ≡ j) × (s ≡ t)
+pub same-end : (i j : ℕ) (s t : Bool) → at-end i s ≡ at-end j t → (i ≡ j) × (s ≡ t)
 same-end i j true true h = (omega arith, refl)
 same-end i j false false h = (omega arith, refl)
 same-end i j true false h = absurd (omega arith)

@@ -15,7 +15,7 @@ use Rattle.propagation.specs.Desks.{noted}
 abbrev pub Grouped : ℕ → List ℕ → Type 0
 Grouped n nogood = All (λ v. v / 64 < n) nogood
 
--- The other assignments' groups keep no channel but the one fixed.
+-- The other assignments' groups keep no channel but theirs.
 abbrev pub Forced : Family → List ℕ → ℕ → Type 0
 Forced k nogood w = All (λ v. v ≢ w → Only k v) nogood
 
@@ -23,7 +23,7 @@ Forced k nogood w = All (λ v. v ≢ w → Only k v) nogood
 abbrev pub Good : List ℕ → List Assignment → List ℕ → Type 0
 Good ms s nogood = All (λ v. noted s v ≡ false) nogood → Heeds (family ms) nogood
 
--- A nogood need not be looked at for a assignment that it does not have. (Where no assignment is named each is looked at.)
+-- A nogood need not be looked at for an assignment that it does not have. (Where no assignment is named each is looked at.)
 abbrev pub Spared : Option ℕ → List ℕ → Type 0
 Spared None nogood = ⊥
 Spared (Some v) nogood = All (λ x. x ≢ v) nogood

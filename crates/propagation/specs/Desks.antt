@@ -20,7 +20,7 @@ use Rattle.propagation.specs.Supports.{Supported, Inside}
 abbrev pub assignment : ℕ → ℕ → Assignment
 assignment g c = record { group = g; channel = c }
 
--- The assignment of the word v waits; a assignment of the group g waits.
+-- The assignment of the word v waits; an assignment of the group g waits.
 abbrev pub noted : List Assignment → ℕ → Bool
 noted [] v = false
 noted (f ∷ s) v = eqb (64 * f .group + f .channel) v || noted s v
@@ -65,7 +65,7 @@ pub record Held (m : Meaning) (d : Desk) : Type 0 where
   pub alive : (g : ℕ) → g < length (d .masks) → getD (d .masks) g 0 ≡ 0 → ⊥
 
 -- Channels were taken away, and what that calls for was put in line: an end that does not wait waited not before and is supported if it was,
--- and a assignment that does not wait waited not before and is not newly the last of its group.
+-- and an assignment that does not wait waited not before and is not newly the last of its group.
 pub record Step (m : Meaning) (d d′ : Desk) : Type 0 where
   pub inside : Inside (family (d′ .masks)) (family (d .masks))
   pub ends : (i : ℕ) (s : Bool) → waits (d′ .ends) (at-end i s) ≡ false → (waits (d .ends) (at-end i s) ≡ false) × (Supported m (family (d .masks)) i s → Supported m (family (d′ .masks)) i s)

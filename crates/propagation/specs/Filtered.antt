@@ -1,10 +1,10 @@
 -- What remains, in the meaning of a rule book.
-use Prim.Native.Nat.{ℕ, _<_, _^_}
+use Prim.Native.Nat.{ℕ, _<_}
 use mathlib.Core.Path.{_≡_}
 use mathlib.Core.Bool.{Bool, true, false}
 use mathlib.Core.List.{List}
-use lib.ListN.{length, getD}
-use Rattle.rules.specs.Meanings.{Meaning, Lawful}
+use lib.ListN.{length}
+use Rattle.rules.specs.Meanings.{Meaning}
 use Rattle.model.specs.Decisions.{Decision}
 use Rattle.model.specs.Remains.{Family, family, Meets, Remains, Dead, Alive}
 
@@ -20,7 +20,3 @@ Doomed lists m base branch = (g : ℕ) × (g < length lists) × ((k : Family) �
 -- The largest family has a group that keeps nothing.
 abbrev pub Dies : List ℕ → Meaning → List (List ℕ) → List Decision → Type 0
 Dies lists m base branch = (k : Family) × Remains lists m base branch k × Dead lists k
-
--- There is a largest family, for all lists of 64-bit numbers and all lawful books.
-abbrev pub Remains-exists : Type 0
-Remains-exists = (lists : List ℕ) (m : Meaning) → Lawful m → (base : List (List ℕ)) (branch : List Decision) → ((i : ℕ) → getD lists i 0 < 2 ^ 64) → (k : Family) × Remains lists m base branch k

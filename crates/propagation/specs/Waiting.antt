@@ -1,3 +1,4 @@
+-- The records that wait in a line over lent places.
 use mathlib.Core.List.{List, _++_}
 use Prim.Native.Nat.{ℕ}
 use lib.ListN.{take, drop, length}

@@ -15,18 +15,21 @@ ghost use Rattle.propagation.specs.Desks.{Emptied};
 ghost use Rattle.propagation.specs.Bases.{Grouped};
 ghost use Rattle.propagation.specs.Calms.{Agrees};
 ghost use Rattle.propagation.specs.Filtered.{Lives, Dies};
+ghost use Rattle.propagation.specs.Wires.{Wired};
 use super::records::Assignment;
 use super::records::RuleEnd;
 use super::ring::Ring;
 use super::shrink::shrink;
 use super::start::alone;
 use super::start::clear;
+use super::wires::wire;
 use super::work::work;
 use rules::book::RuleBook;
 
 // The rules and the nogoods, where nothing was amiss before group `g` came to keep the channels of `keeps`.
 pub fn resume<B: RuleBook>(
     book: &B,
+    wires: &[u16],
     base: &[u32],
     g: u16,
     keeps: u64,
@@ -35,6 +38,7 @@ pub fn resume<B: RuleBook>(
     marks: &mut [u32],
     settled: &mut Ring<Assignment>,
 ) -> bool
+    requires wired { ⌜ Wired (meaning (now book)) (now wires) ⌝ }
     requires groups { ⌜ length (now domains) ≡ meaning (now book) .groups ⌝ }
     requires narrow { ⌜ length (now domains) ≤ 65536 ⌝ }
     requires rules { ⌜ meaning (now book) .count ≤ 4096 ⌝ }
@@ -54,16 +58,17 @@ pub fn resume<B: RuleBook>(
     ensures agrees { λ r. ⌜ (r ≡ true → Agrees (meaning (now (book .entry))) (base-of (now (base .entry))) (family (now (domains .exit)))) ⌝ }
 {
     clear(marks);
-    if !shrink(book, g, keeps, domains, ends, marks, settled) {
+    if !shrink(book, wires, g, keeps, domains, ends, marks, settled) {
         return false;
     }
-    work(book, base, domains, ends, marks, settled)
+    work(book, wires, base, domains, ends, marks, settled)
 }
 
 // One more decision, taken, over regions of the sizes needed. Answers false where some group keeps nothing.
 pub fn filter_decision<B: RuleBook>(
     lists: &[u64],
     book: &B,
+    wires: &[u16],
     branch: &[u32],
     base: &[u32],
     domains: &mut [u64],
@@ -71,6 +76,7 @@ pub fn filter_decision<B: RuleBook>(
     ends: &mut [RuleEnd],
     settled: &mut [Assignment],
 ) -> bool
+    requires wired { ⌜ Wired (meaning (now book)) (now wires) ⌝ }
     requires groups { ⌜ length (now lists) ≡ meaning (now book) .groups ⌝ }
     requires size { ⌜ length (now domains) ≡ length (now lists) ⌝ }
     requires narrow { ⌜ length (now lists) ≤ 65536 ⌝ }
@@ -90,21 +96,22 @@ pub fn filter_decision<B: RuleBook>(
     let g = (word / 64) as u16;
     let keeps = alone(domains[g as usize], (word % 64) as u8);
     let mut waiting = Ring::over(ends);
-    let mut fixed = Ring::over(settled);
+    let mut singles = Ring::over(settled);
     resume(
         book,
+        wires,
         base,
         g,
         keeps,
         domains,
         &mut waiting,
         marks,
-        &mut fixed,
+        &mut singles,
     )
 }
 
 // What remains once the newest decision of the branch is taken, where the region has what remained before it.
-// Only what that decision calls for is looked at. Words beyond the sizes needed are untouched.
+// Only what that decision calls for is looked at. Words beyond the sizes needed are untouched. An inner call, like `propagate`.
 pub fn propagate_decision<B: RuleBook>(
     lists: &[u64],
     book: &B,
@@ -117,7 +124,7 @@ pub fn propagate_decision<B: RuleBook>(
 ) -> bool
     requires groups { ⌜ length (now lists) ≡ meaning (now book) .groups ⌝ }
     requires size { ⌜ length (now lists) ≤ length (now domains) ⌝ }
-    requires narrow { ⌜ length (now lists) ≤ 65536 ⌝ }
+    requires narrow { ⌜ length (now lists) ≤ 200 ⌝ }
     requires rules { ⌜ meaning (now book) .count ≤ 4096 ⌝ }
     requires places { ⌜ 2 * meaning (now book) .count ≤ length (now ends) ⌝ }
     requires slots { ⌜ length (now lists) ≤ length (now settled) ⌝ }
@@ -136,9 +143,12 @@ pub fn propagate_decision<B: RuleBook>(
 {
     let n = lists.len();
     let places = 2 * book.count() as usize;
+    let mut wires = [0u16; 8392];
+    wire(book, &mut wires);
     filter_decision(
         lists,
         book,
+        &wires,
         branch,
         base,
         &mut domains[0..n],

@@ -11,6 +11,6 @@ pub mod ring;
 pub mod shrink;
 pub mod start;
 pub mod support;
-pub mod theorems;
 pub mod walk;
+pub mod wires;
 pub mod work;

@@ -10,6 +10,7 @@ ghost use Rattle.model.specs.Remains.{Family, family, Only, Gone, Heeds};
 ghost use Rattle.propagation.specs.Supports.{Inside};
 ghost use Rattle.propagation.specs.Desks.{desk, Held, Step, Emptied};
 ghost use Rattle.propagation.specs.Bases.{Grouped, Forced};
+ghost use Rattle.propagation.specs.Wires.{Wired};
 use super::bits::without;
 use super::records::Assignment;
 use super::records::RuleEnd;
@@ -17,7 +18,7 @@ use super::ring::Ring;
 use super::shrink::shrink;
 use rules::book::RuleBook;
 
-// Whether the group of the assignment keeps no channel but the one fixed.
+// Whether the group of the assignment keeps no channel but its own.
 pub fn is_only(domains: &[u64], v: u32) -> bool
     requires { ⌜ v / 64 < length (now domains) ⌝ }
     ensures { λ r. ⌜ Decides r (Only (family (now (domains .entry))) v) ⌝ }
@@ -25,15 +26,17 @@ pub fn is_only(domains: &[u64], v: u32) -> bool
     without(domains[(v / 64) as usize], (v % 64) as u8) == 0
 }
 
-// The channel of a assignment goes.
+// The channel of an assignment goes.
 pub fn remove<B: RuleBook>(
     book: &B,
+    wires: &[u16],
     v: u32,
     domains: &mut [u64],
     ends: &mut Ring<RuleEnd>,
     marks: &mut [u32],
     settled: &mut Ring<Assignment>,
 ) -> bool
+    requires wired { ⌜ Wired (meaning (now book)) (now wires) ⌝ }
     requires held { ⌜ Held (meaning (now book)) (desk (now domains) (now ends) (now marks) (now settled)) ⌝ }
     requires group { ⌜ v / 64 < length (now domains) ⌝ }
     requires narrow { ⌜ length (now domains) ≤ 65536 ⌝ }
@@ -45,7 +48,7 @@ pub fn remove<B: RuleBook>(
 {
     let g = (v / 64) as u16;
     let keeps = without(domains[g as usize], (v % 64) as u8);
-    shrink(book, g, keeps, domains, ends, marks, settled)
+    shrink(book, wires, g, keeps, domains, ends, marks, settled)
 }
 
 // Whether the others are all settled.
@@ -62,29 +65,54 @@ pub fn others_settled(nogood: &[u32], w: u32, domains: &[u64]) -> bool
     true
 }
 
-// A assignment whose others are all settled.
-pub fn forced(nogood: &[u32], domains: &[u64]) -> Option<u32>
+// The first assignment whose group keeps another channel.
+pub fn unsettled(nogood: &[u32], domains: &[u64]) -> Option<u32>
     requires { ⌜ Grouped (length (now domains)) (now nogood) ⌝ }
-    ensures { λ r. ⌜ BySome r ((k : ℕ) → k < length (now (nogood .entry)) → Forced (family (now (domains .entry))) (now (nogood .entry)) (getD (now (nogood .entry)) k 0) → ⊥) (λ w. (k : ℕ) × (k < length (now (nogood .entry))) × (w ≡ getD (now (nogood .entry)) k 0) × Forced (family (now (domains .entry))) (now (nogood .entry)) w) ⌝ }
+    ensures { λ r. ⌜ BySome r ((k : ℕ) → k < length (now (nogood .entry)) → Only (family (now (domains .entry))) (getD (now (nogood .entry)) k 0)) (λ w. (k : ℕ) × (k < length (now (nogood .entry))) × (w ≡ getD (now (nogood .entry)) k 0) × (Only (family (now (domains .entry))) w → ⊥)) ⌝ }
 {
     for k in 0..nogood.len() {
-        let w = nogood[k];
-        if others_settled(nogood, w, domains) {
-            return Some(w);
+        let v = nogood[k];
+        if !is_only(domains, v) {
+            return Some(v);
         }
     }
     None
 }
 
+// An assignment whose others are all settled: the one that is not settled itself, or any.
+pub fn forced(nogood: &[u32], domains: &[u64]) -> Option<u32>
+    requires { ⌜ Grouped (length (now domains)) (now nogood) ⌝ }
+    ensures { λ r. ⌜ BySome r ((k : ℕ) → k < length (now (nogood .entry)) → Forced (family (now (domains .entry))) (now (nogood .entry)) (getD (now (nogood .entry)) k 0) → ⊥) (λ w. (k : ℕ) × (k < length (now (nogood .entry))) × (w ≡ getD (now (nogood .entry)) k 0) × Forced (family (now (domains .entry))) (now (nogood .entry)) w) ⌝ }
+{
+    match unsettled(nogood, domains) {
+        Some(w) => {
+            if others_settled(nogood, w, domains) {
+                Some(w)
+            } else {
+                None
+            }
+        }
+        None => {
+            if nogood.len() == 0 {
+                None
+            } else {
+                Some(nogood[0])
+            }
+        }
+    }
+}
+
 // The look at one nogood.
 pub fn look<B: RuleBook>(
     book: &B,
+    wires: &[u16],
     nogood: &[u32],
     domains: &mut [u64],
     ends: &mut Ring<RuleEnd>,
     marks: &mut [u32],
     settled: &mut Ring<Assignment>,
 ) -> bool
+    requires wired { ⌜ Wired (meaning (now book)) (now wires) ⌝ }
     requires held { ⌜ Held (meaning (now book)) (desk (now domains) (now ends) (now marks) (now settled)) ⌝ }
     requires grouped { ⌜ Grouped (length (now domains)) (now nogood) ⌝ }
     requires narrow { ⌜ length (now domains) ≤ 65536 ⌝ }
@@ -96,6 +124,6 @@ pub fn look<B: RuleBook>(
 {
     match forced(nogood, domains) {
         None => true,
-        Some(w) => remove(book, w, domains, ends, marks, settled),
+        Some(w) => remove(book, wires, w, domains, ends, marks, settled),
     }
 }

@@ -6,6 +6,7 @@ ghost use lib.ListN.{length, getD, set};
 ghost use Rattle.model.specs.Remains.{Family, family};
 ghost use Rattle.propagation.specs.Supports.{near, far, Supported, Inside};
 ghost use Rattle.propagation.specs.Desks.{desk, Held, Step, Emptied};
+ghost use Rattle.propagation.specs.Wires.{Wired};
 use super::records::Assignment;
 use super::records::RuleEnd;
 use super::ring::Ring;
@@ -23,12 +24,14 @@ pub fn turned(second: bool, e: (u16, u16)) -> (u16, u16)
 
 pub fn revise<B: RuleBook>(
     book: &B,
+    wires: &[u16],
     e: RuleEnd,
     domains: &mut [u64],
     ends: &mut Ring<RuleEnd>,
     marks: &mut [u32],
     settled: &mut Ring<Assignment>,
 ) -> bool
+    requires wired { ⌜ Wired (meaning (now book)) (now wires) ⌝ }
     requires held { ⌜ Held (meaning (now book)) (desk (now domains) (now ends) (now marks) (now settled)) ⌝ }
     ensures within { λ _. ⌜ ((k : Family) → Supported (meaning (now (book .entry))) k (e .rule) (e .second) → Inside k (family (now (domains .entry))) → Inside k (family (now (domains .exit)))) ⌝ }
     ensures dead { λ r. ⌜ (r ≡ false → Emptied (now (domains .exit))) ⌝ }
@@ -43,7 +46,7 @@ pub fn revise<B: RuleBook>(
             let set = domains[near as usize];
             let across = domains[far as usize];
             let keeps = kept_at(book, e.rule, e.second, set, across);
-            shrink(book, near, keeps, domains, ends, marks, settled)
+            shrink(book, wires, near, keeps, domains, ends, marks, settled)
         }
     }
 }

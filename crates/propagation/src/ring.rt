@@ -7,6 +7,8 @@ ghost use Rattle.propagation.specs.Waiting.{queued, size};
 ghost use Rattle.std.specs.Results.{Cases};
 ghost use Rattle.std.specs.Options.{Cases as BySome};
 ghost use denote.Ref.{name};
+ghost use Rattle.rules.specs.declared.refusal.Refusal.the-variants.{LineFull};
+use rules::refusal::Refusal;
 
 // A line over lent places: the oldest first, freed places used again.
 // Every state stands for a line: a head past the places counts as 0, a length past their number as that number.
@@ -15,6 +17,21 @@ pub struct Ring<'a, T> {
     places: &'a mut [T],
     head: usize,
     len: usize,
+}
+
+// The record that found no free place, given back.
+#[derive(Clone, Copy)]
+pub struct Full<T> {
+    pub record: T,
+}
+
+// The refusal of a line with no free place.
+pub impl<T: Drop> From<Full<T>> for Refusal as RefusalFromFull {
+    ghost converts = { λ _ r. r ≡ LineFull };
+
+    fn from(_: Full<T>) -> Refusal {
+        Refusal::LineFull
+    }
 }
 
 impl<'a, T: Copy> Ring<'a, T> {
@@ -31,14 +48,14 @@ impl<'a, T: Copy> Ring<'a, T> {
     }
 
     // Appends `x`, or gives it back where no place is free.
-    pub fn push(&mut self, x: T) -> Result<(), T>
+    pub fn push(&mut self, x: T) -> Result<(), Full<T>>
         ensures held { λ _. ⌜ name (now (self .exit) .places) ≡ name (now (self .entry) .places) ⌝ }
         ensures sized { λ _. ⌜ size (now (self .exit)) ≡ size (now (self .entry)) ⌝ }
-        ensures line { λ r. ⌜ Cases r (λ _. (length (queued (now (self .entry))) < size (now (self .entry))) × (queued (now (self .exit)) ≡ queued (now (self .entry)) ++ (x ∷ []))) (λ e. (e ≡ x) × (length (queued (now (self .entry))) ≡ size (now (self .entry))) × (now (self .exit) ≡ now (self .entry))) ⌝ }
+        ensures line { λ r. ⌜ Cases r (λ _. (length (queued (now (self .entry))) < size (now (self .entry))) × (queued (now (self .exit)) ≡ queued (now (self .entry)) ++ (x ∷ []))) (λ e. (e .record ≡ x) × (length (queued (now (self .entry))) ≡ size (now (self .entry))) × (now (self .exit) ≡ now (self .entry))) ⌝ }
     {
         let n = self.places.len();
         if self.len >= n {
-            return Err(x);
+            return Err(Full { record: x });
         }
         let start = if self.head < n { self.head } else { 0 };
         let room = n - start;

@@ -6,7 +6,9 @@ ghost use lib.ListN.{length, getD, set};
 ghost use Rattle.rules.specs.Channels.{has};
 ghost use Rattle.propagation.specs.Waiting.{queued, size};
 ghost use Rattle.propagation.specs.Desks.{desk, Held, Step, Noting};
+ghost use Rattle.propagation.specs.Wires.{Wired};
 use super::across::queue_across;
+use super::bits::lowest;
 use super::bits::without;
 use super::records::Assignment;
 use super::records::RuleEnd;
@@ -20,7 +22,7 @@ pub fn settle(g: u16, keeps: u64, settled: &mut Ring<Assignment>)
     ensures sized { λ _. ⌜ size (now (settled .exit)) ≡ size (now (settled .entry)) ⌝ }
     ensures noting { λ _. ⌜ Noting g keeps (queued (now (settled .entry))) (queued (now (settled .exit))) ⌝ }
 {
-    let c = keeps.trailing_zeros() as u8;
+    let c = lowest(keeps);
     if without(keeps, c) == 0 {
         let _ = settled.push(Assignment {
             group: g,
@@ -32,6 +34,7 @@ pub fn settle(g: u16, keeps: u64, settled: &mut Ring<Assignment>)
 // Group `g` keeps the channels of `keeps`; where these are fewer, what that calls for goes in line. Answers false where it keeps none.
 pub fn shrink<B: RuleBook>(
     book: &B,
+    wires: &[u16],
     g: u16,
     keeps: u64,
     domains: &mut [u64],
@@ -39,6 +42,7 @@ pub fn shrink<B: RuleBook>(
     marks: &mut [u32],
     settled: &mut Ring<Assignment>,
 ) -> bool
+    requires wired { ⌜ Wired (meaning (now book)) (now wires) ⌝ }
     requires held { ⌜ Held (meaning (now book)) (desk (now domains) (now ends) (now marks) (now settled)) ⌝ }
     requires group { ⌜ g < length (now domains) ⌝ }
     requires less { ⌜ keeps ≤ getD (now domains) g 0 ⌝ }
@@ -56,7 +60,7 @@ pub fn shrink<B: RuleBook>(
     if keeps == 0 {
         return false;
     }
-    queue_across(book, g, ends, marks);
+    queue_across(book, wires, g, ends, marks);
     settle(g, keeps, settled);
     true
 }

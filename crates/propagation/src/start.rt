@@ -8,7 +8,7 @@ ghost use Rattle.std.specs.Orderings.{Decides};
 ghost use Rattle.propagation.specs.Waiting.{queued, size};
 ghost use Rattle.rules.specs.Channels.{has};
 ghost use Rattle.model.specs.Masks.{grp};
-ghost use Rattle.model.specs.Decisions.{word as fixed};
+ghost use Rattle.model.specs.Decisions.{word as assigned};
 ghost use Rattle.model.specs.Words.{decision};
 ghost use Rattle.model.specs.Remains.{Family, family, Obeys};
 ghost use Rattle.propagation.specs.Waits.{waits, at-end, Line, Space};
@@ -30,7 +30,7 @@ pub fn alone(set: u64, c: u8) -> u64
 
 // The decision of a word of the branch.
 pub fn decide(domains: &mut [u64], word: u32)
-    requires { ⌜ grp (fixed (decision word)) < length (now domains) ⌝ }
+    requires { ⌜ grp (assigned (decision word)) < length (now domains) ⌝ }
     ensures inside { λ _. ⌜ Inside (family (now (domains .exit))) (family (now (domains .entry))) ⌝ }
     ensures obeys { λ _. ⌜ Obeys (family (now (domains .exit))) (decision word) ⌝ }
     ensures within { λ _. ⌜ ((k : Family) → Obeys k (decision word) → Inside k (family (now (domains .entry))) → Inside k (family (now (domains .exit)))) ⌝ }
@@ -47,7 +47,7 @@ pub fn decide(domains: &mut [u64], word: u32)
 
 // All decisions of the branch.
 pub fn decide_all(domains: &mut [u64], branch: &[u32])
-    requires { ⌜ ((i : ℕ) → i < length (now branch) → grp (fixed (decision (getD (now branch) i 0))) < length (now domains)) ⌝ }
+    requires { ⌜ ((i : ℕ) → i < length (now branch) → grp (assigned (decision (getD (now branch) i 0))) < length (now domains)) ⌝ }
     ensures inside { λ _. ⌜ Inside (family (now (domains .exit))) (family (now (domains .entry))) ⌝ }
     ensures obeys { λ _. ⌜ ((i : ℕ) → i < length (now (branch .entry)) → Obeys (family (now (domains .exit))) (decision (getD (now (branch .entry)) i 0))) ⌝ }
     ensures within { λ _. ⌜ ((k : Family) → ((i : ℕ) → i < length (now (branch .entry)) → Obeys k (decision (getD (now (branch .entry)) i 0))) → Inside k (family (now (domains .entry))) → Inside k (family (now (domains .exit)))) ⌝ }

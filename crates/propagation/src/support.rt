@@ -5,7 +5,7 @@ ghost use Prim.Native.Nat.{ℕ, _<_, _≤_};
 ghost use Rattle.std.specs.Orderings.{Decides};
 ghost use Rattle.rules.specs.Channels.{has};
 ghost use Rattle.propagation.specs.Supports.{allows, Backed, Kept};
-use super::bits::holds;
+use super::bits::lowest;
 use super::bits::without;
 use rules::book::RuleBook;
 
@@ -24,10 +24,13 @@ pub fn allowed<B: RuleBook>(book: &B, rule: u32, second: bool, a: u8, b: u8) -> 
 pub fn backed<B: RuleBook>(book: &B, rule: u32, second: bool, a: u8, across: u64) -> bool
     ensures { λ r. ⌜ Decides r (Backed (meaning (now (book .entry))) rule second across a) ⌝ }
 {
-    for b in 0..64u8 {
-        if holds(across, b) && allowed(book, rule, second, a, b) {
+    let mut left = across;
+    while left != 0 {
+        let b = lowest(left);
+        if allowed(book, rule, second, a, b) {
             return true;
         }
+        left = without(left, b);
     }
     false
 }
@@ -53,8 +56,11 @@ pub fn kept_at<B: RuleBook>(book: &B, rule: u32, second: bool, set: u64, across:
     ensures kept { λ r. ⌜ Kept (meaning (now (book .entry))) rule second set across r ⌝ }
 {
     let mut rest = set;
-    for a in 0..64u8 {
+    let mut left = set;
+    while left != 0 {
+        let a = lowest(left);
         rest = trimmed(book, rule, second, rest, across, a);
+        left = without(left, a);
     }
     rest
 }

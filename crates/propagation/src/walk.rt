@@ -12,6 +12,7 @@ ghost use Rattle.propagation.specs.Supports.{Inside};
 ghost use Rattle.propagation.specs.Desks.{desk, Held, Step, Emptied};
 ghost use Rattle.model.specs.Words.{base-of};
 ghost use Rattle.propagation.specs.Bases.{Grouped, Good, Spared};
+ghost use Rattle.propagation.specs.Wires.{Wired};
 use super::nogood::look;
 use super::records::Assignment;
 use super::records::RuleEnd;
@@ -55,6 +56,7 @@ pub fn spared(just: Option<u32>, nogood: &[u32]) -> bool
 // The look at a nogood that is not spared.
 pub fn look_unless<B: RuleBook>(
     book: &B,
+    wires: &[u16],
     just: Option<u32>,
     nogood: &[u32],
     domains: &mut [u64],
@@ -62,6 +64,7 @@ pub fn look_unless<B: RuleBook>(
     marks: &mut [u32],
     settled: &mut Ring<Assignment>,
 ) -> bool
+    requires wired { ⌜ Wired (meaning (now book)) (now wires) ⌝ }
     requires held { ⌜ Held (meaning (now book)) (desk (now domains) (now ends) (now marks) (now settled)) ⌝ }
     requires grouped { ⌜ Grouped (length (now domains)) (now nogood) ⌝ }
     requires narrow { ⌜ length (now domains) ≤ 65536 ⌝ }
@@ -74,12 +77,13 @@ pub fn look_unless<B: RuleBook>(
     if spared(just, nogood) {
         return true;
     }
-    look(book, nogood, domains, ends, marks, settled)
+    look(book, wires, nogood, domains, ends, marks, settled)
 }
 
 // Looks at every nogood that is not spared.
 pub fn heed_all<B: RuleBook>(
     book: &B,
+    wires: &[u16],
     just: Option<u32>,
     base: &[u32],
     domains: &mut [u64],
@@ -87,6 +91,7 @@ pub fn heed_all<B: RuleBook>(
     marks: &mut [u32],
     settled: &mut Ring<Assignment>,
 ) -> bool
+    requires wired { ⌜ Wired (meaning (now book)) (now wires) ⌝ }
     requires held { ⌜ Held (meaning (now book)) (desk (now domains) (now ends) (now marks) (now settled)) ⌝ }
     requires grouped { ⌜ All (Grouped (length (now domains))) (base-of (now base)) ⌝ }
     requires narrow { ⌜ length (now domains) ≤ 65536 ⌝ }
@@ -102,6 +107,7 @@ pub fn heed_all<B: RuleBook>(
         let end = part_end(base, pos);
         if !look_unless(
             book,
+            wires,
             just,
             &base[pos + 1..end],
             domains,

@@ -10,6 +10,7 @@ ghost use Rattle.propagation.specs.Desks.{desk, Held, Emptied};
 ghost use Rattle.model.specs.Words.{base-of};
 ghost use Rattle.propagation.specs.Bases.{Grouped};
 ghost use Rattle.propagation.specs.Calms.{Agrees, Going, Turned};
+ghost use Rattle.propagation.specs.Wires.{Wired};
 use super::line::take;
 use super::records::Assignment;
 use super::records::RuleEnd;
@@ -29,12 +30,14 @@ pub enum Turn {
 // Takes one of what waits, settled assignments first.
 pub fn take_turn<B: RuleBook>(
     book: &B,
+    wires: &[u16],
     base: &[u32],
     domains: &mut [u64],
     ends: &mut Ring<RuleEnd>,
     marks: &mut [u32],
     settled: &mut Ring<Assignment>,
 ) -> Turn
+    requires wired { ⌜ Wired (meaning (now book)) (now wires) ⌝ }
     requires held { ⌜ Held (meaning (now book)) (desk (now domains) (now ends) (now marks) (now settled)) ⌝ }
     requires going { ⌜ Going (meaning (now book)) (base-of (now base)) (desk (now domains) (now ends) (now marks) (now settled)) ⌝ }
     requires grouped { ⌜ All (Grouped (length (now domains))) (base-of (now base)) ⌝ }
@@ -45,7 +48,7 @@ pub fn take_turn<B: RuleBook>(
     match settled.pop() {
         Some(f) => {
             let v = 64 * f.group as u32 + f.channel as u32;
-            if heed_all(book, Some(v), base, domains, ends, marks, settled) {
+            if heed_all(book, wires, Some(v), base, domains, ends, marks, settled) {
                 Turn::More
             } else {
                 Turn::Dead
@@ -54,7 +57,7 @@ pub fn take_turn<B: RuleBook>(
         None => match take(ends, marks, book.count()) {
             None => Turn::Done,
             Some(e) => {
-                if revise(book, e, domains, ends, marks, settled) {
+                if revise(book, wires, e, domains, ends, marks, settled) {
                     Turn::More
                 } else {
                     Turn::Dead
@@ -67,12 +70,14 @@ pub fn take_turn<B: RuleBook>(
 // Turns, until nothing waits or a group keeps nothing.
 pub fn work<B: RuleBook>(
     book: &B,
+    wires: &[u16],
     base: &[u32],
     domains: &mut [u64],
     ends: &mut Ring<RuleEnd>,
     marks: &mut [u32],
     settled: &mut Ring<Assignment>,
 ) -> bool
+    requires wired { ⌜ Wired (meaning (now book)) (now wires) ⌝ }
     requires held { ⌜ Held (meaning (now book)) (desk (now domains) (now ends) (now marks) (now settled)) ⌝ }
     requires going { ⌜ Going (meaning (now book)) (base-of (now base)) (desk (now domains) (now ends) (now marks) (now settled)) ⌝ }
     requires grouped { ⌜ All (Grouped (length (now domains))) (base-of (now base)) ⌝ }
@@ -84,7 +89,7 @@ pub fn work<B: RuleBook>(
     ensures agrees { λ r. ⌜ (r ≡ true → Agrees (meaning (now (book .entry))) (base-of (now (base .entry))) (family (now (domains .exit)))) ⌝ }
 {
     loop {
-        match take_turn(book, base, domains, ends, marks, settled) {
+        match take_turn(book, wires, base, domains, ends, marks, settled) {
             Turn::Dead => return false,
             Turn::Done => return true,
             Turn::More => {}

@@ -5,3 +5,6 @@ pub mod Joins
 pub mod Channels
 pub mod Refusals
 pub mod Tables
+pub mod Plans
+pub mod Checks
+pub mod Laws

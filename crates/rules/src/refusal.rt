@@ -1,8 +1,10 @@
 // Why a call is refused: one enum for all calls, each case with its number and its place.
+ghost use mathlib.Core.Bool.{_&&_};
 ghost use mathlib.Core.Path.{_≡_};
+ghost use lib.Dec.{eqb};
 ghost use Rattle.rules.specs.Refusals.{numbered, placed};
 
-#[derive(Clone, Copy, PartialEq, Eq)]
+#[derive(Clone, Copy)]
 pub enum Refusal {
     // The input ends in a body, or before an end record.
     InputEnds(usize),
@@ -94,3 +96,14 @@ impl Refusal {
         }
     }
 }
+
+// Two refusals are the same where their numbers and their places are.
+pub impl PartialEq<Refusal> for Refusal as RefusalPartialEq {
+    ghost equals = { λ a b r. r ≡ (eqb (numbered a) (numbered b) && eqb (placed a) (placed b)) };
+
+    fn eq(&self, other: &Refusal) -> bool {
+        self.number() == other.number() && self.place() == other.place()
+    }
+}
+
+pub impl Eq for Refusal as RefusalEq {}

@@ -5,3 +5,5 @@ pub mod Fronts
 pub mod Choices
 pub mod Turning
 pub mod Vets
+pub mod Along
+pub mod Ready

@@ -33,7 +33,7 @@ use Rattle.laws.proofs.Total.{two-wide}
 use Rattle.laws.proofs.Sittings.{turn-move}
 use Rattle.search.specs.declared.held.Progress.{Progress}
 use Rattle.search.specs.declared.turns.Step.{Step}
-use Rattle.search.specs.declared.turns.Step.the-variants.{None as Ends-none, Plan, Spent, Closed, Restarted, Decided}
+use Rattle.search.specs.declared.turns.Step.the-variants.{None as Ends-none, Plan, Spent, Moved as Went, Decided}
 use Rattle.search.specs.Turns.{state-of, Fit, Fresh, Due-at, Dead-turn, Restart-turn, Decide-turn, Alive-turn, Same, Moved, Turned}
 
 pub length-branch-of : (ws : List ℕ) (n : ℕ) → length (branch-of ws n) ≡ n
@@ -72,16 +72,14 @@ module _ {H Q : Type 0} (lists : List ℕ) (book : Meaning) (om : OrderMeaning H
   turned-dead Ends-none t d e = (record { state = t .1; order = t .2; policy = e }, d, t .0)
   turned-dead Plan t d e = absurd t
   turned-dead Spent t d e = (record { state = t .2; order = t .3; policy = e }, t .0, dead (d .0) (d .1) (d .2) (t .1), inr d)
-  turned-dead Closed t d e = record { allowed = t .0; next = after-close (begun s); turn = close (d .0) (d .1) (d .2) (t .1); state = t .2; order = t .3; policy = e }
-  turned-dead Restarted t d e = absurd t
+  turned-dead Went t d e = record { allowed = t .0; next = after-close (begun s); turn = close (d .0) (d .1) (d .2) (t .1); state = t .2; order = t .3; policy = e }
   turned-dead Decided t d e = absurd t
 
   pub turned-alive : (r : Step) → Alive-turn om pm room left masks h h′ q q′ s s′ r → Leaves lists book s masks → Alive lists (family masks) → Turned lists book om pm room left masks h h′ q q′ s s′ r
   turned-alive Ends-none t l a = absurd t
   turned-alive Plan t l a = (record { state = t .1; order = t .2; policy = t .3 }, l, a, t .0)
   turned-alive Spent t l a = (record { state = t .2; order = t .3; policy = t .4 }, t .0, wide masks l a (two-wide lists book s masks l (t .1 .0) (t .1 .1)), inl l)
-  turned-alive Closed t l a = absurd t
-  turned-alive Restarted t l a =
+  turned-alive Went t l a =
       let r = t .2 in
       record { allowed = t .0; next = after-restart (begun s); turn = restart masks l a (two-wide lists book s masks l (t .1 .0) (t .1 .1)) (r .due); state = r .state; order = r .order; policy = r .policy }
   turned-alive Decided t l a =
@@ -105,8 +103,7 @@ module _ {H Q : Type 0} (lists : List ℕ) (book : Meaning) (om : OrderMeaning H
     turned-whole Ends-none t w = subst (Whole lists) (sym (t .0 .state)) w
     turned-whole Plan t w = subst (Whole lists) (sym (t .0 .state)) w
     turned-whole Spent t w = subst (Whole lists) (sym (t .0 .state)) w
-    turned-whole Closed t w = moved-whole t w
-    turned-whole Restarted t w = moved-whole t w
+    turned-whole Went t w = moved-whole t w
     turned-whole Decided t w = moved-whole t w
 
 pub fit-whole : (lists : List ℕ) (p : Progress) (branch base : List ℕ) → Fit lists p branch base → Whole lists (state-of p branch base)

@@ -94,7 +94,7 @@ false-on lists ws i (suc k) e =
     let z : suc k + i ≡ suc (k + i) = omega arith in
     let d = decision (getD ws (k + i) 0) in
     rw z (ap (λ b. listed? lists (word d) && (free? (word d) (branch-of ws (k + i)) && b)) (false-on lists ws i k e)
-      ∙ ap (λ b. listed? lists (word d) && b) (and-false (free? (word d) (branch-of ws (k + i)))) ∙ and-false (listed? lists (word d)))
+    ∙ ap (λ b. listed? lists (word d) && b) (and-false (free? (word d) (branch-of ws (k + i)))) ∙ and-false (listed? lists (word d)))
 
 pub branch-fails : (lists ws : List ℕ) (i n : ℕ) → i < n → (listed? lists (word (decision (getD ws i 0))) && free? (word (decision (getD ws i 0))) (branch-of ws i)) ≡ false
     → branch? lists (branch-of ws n) ≡ false
@@ -171,7 +171,7 @@ branch-taken lists ws (suc n) l low =
     ∙ ap (λ b. listed? lists w && (all (λ v. not (eqb (grp v) (grp w))) (take n ws) && b)) h
     ∙ mix (listed? lists w) (all (λ v. not (eqb (grp v) (grp w))) (take n ws)) (all (listed? lists) (take n ws)) (apart? (take n ws))
     ∙ sym (ap (λ xs. all (listed? lists) xs && apart? xs) t ∙ ap (λ b. b && apart? (take n ws ++ w ∷ [])) (all-append (listed? lists) (take n ws) w)
-      ∙ ap (λ b. (all (listed? lists) (take n ws) && listed? lists w) && b) (apart-append (take n ws) w))
+    ∙ ap (λ b. (all (listed? lists) (take n ws) && listed? lists w) && b) (apart-append (take n ws) w))
   where
     mix : (a b c d : Bool) → (a && (b && (c && d))) ≡ ((c && a) && (d && b))
     mix true true true true = refl

@@ -1,3 +1,4 @@
 pub mod Branches
 pub mod Turns
 pub mod Calls
+pub mod Sittings

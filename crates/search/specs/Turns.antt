@@ -21,7 +21,7 @@ use Rattle.laws.specs.Orders.{held-after, behaviour, moved-on, cutoffs}
 use Rattle.laws.specs.Sittings.{Search, begun, blamed, Leaves, Going, Turn}
 use Rattle.search.specs.declared.held.Progress.{Progress}
 use Rattle.search.specs.declared.turns.Step.{Step}
-use Rattle.search.specs.declared.turns.Step.the-variants.{None as Ends-none, Plan, Spent, Closed, Restarted, Decided}
+use Rattle.search.specs.declared.turns.Step.the-variants.{None as Ends-none, Plan, Spent, Moved as Went, Decided}
 
 -- The state that the numbers of a search and the words of its branch and base stand for.
 abbrev pub state-of : Progress → List ℕ → List ℕ → State
@@ -82,8 +82,7 @@ abbrev pub Dead-turn : {H : Type 0} → OrderMeaning H → ℕ → H → H → S
 Dead-turn om left h h′ s s′ Ends-none = (takens (s .branch) ≡ []) × (s′ ≡ s) × (h′ ≡ h)
 Dead-turn om left h h′ s s′ Plan = ⊥
 Dead-turn om left h h′ s s′ Spent = (left ≡ 0) × (takens (s .branch) ≢ []) × (s′ ≡ s) × (h′ ≡ h)
-Dead-turn om left h h′ s s′ Closed = (0 < left) × (takens (s .branch) ≢ []) × (s′ ≡ closing s) × (h′ ≡ om .heard h (blamed (s .branch)))
-Dead-turn om left h h′ s s′ Restarted = ⊥
+Dead-turn om left h h′ s s′ Went = (0 < left) × (takens (s .branch) ≢ []) × (s′ ≡ closing s) × (h′ ≡ om .heard h (blamed (s .branch)))
 Dead-turn om left h h′ s s′ Decided = ⊥
 
 -- A turn where every group keeps a channel: none keeps two, or the moves are used up, or a restart is made where it is due, and else a decision.
@@ -107,8 +106,7 @@ abbrev pub Alive-turn : {H Q : Type 0} → OrderMeaning H → PolicyMeaning Q �
 Alive-turn om pm room left masks h h′ q q′ s s′ Ends-none = ⊥
 Alive-turn om pm room left masks h h′ q q′ s s′ Plan = ((g : ℕ) → Open masks g → ⊥) × (s′ ≡ s) × (h′ ≡ h) × (q′ ≡ q)
 Alive-turn om pm room left masks h h′ q q′ s s′ Spent = (left ≡ 0) × ((g : ℕ) × Open masks g) × (s′ ≡ s) × (h′ ≡ h) × (q′ ≡ q)
-Alive-turn om pm room left masks h h′ q q′ s s′ Closed = ⊥
-Alive-turn om pm room left masks h h′ q q′ s s′ Restarted = (0 < left) × ((g : ℕ) × Open masks g) × Restart-turn pm room h h′ q q′ s s′
+Alive-turn om pm room left masks h h′ q q′ s s′ Went = (0 < left) × ((g : ℕ) × Open masks g) × Restart-turn pm room h h′ q q′ s s′
 Alive-turn om pm room left masks h h′ q q′ s s′ Decided = (0 < left) × ((g : ℕ) × Open masks g) × Decide-turn om pm room masks h h′ q q′ s s′
 
 -- What a turn leaves as it was in the regions that it works in: all beyond the sizes asked for.
@@ -162,6 +160,5 @@ module _ {H Q : Type 0} (lists : List ℕ) (book : Meaning) (om : OrderMeaning H
   Turned Ends-none = Same × ((ms : List ℕ) × Leaves lists book s ms × Dead lists (family ms)) × (takens (s .branch) ≡ [])
   Turned Plan = Same × Leaves lists book s masks × Alive lists (family masks) × ((g : ℕ) → Open masks g → ⊥)
   Turned Spent = Same × (left ≡ 0) × Going lists book s × Remaining
-  Turned Closed = Moved
-  Turned Restarted = Moved
+  Turned Went = Moved
   Turned Decided = Moved

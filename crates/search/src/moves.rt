@@ -35,7 +35,12 @@ pub(crate) fn close(at: &mut Progress, branch: &mut [u32], last: usize) -> u16
 }
 
 // Restart: the nogoods of the branch go into the base, the branch is emptied, and the policy moves on.
-pub(crate) fn restart<P: RestartPolicy>(policy: &mut P, at: &mut Progress, branch: &[u32], base: &mut [u32])
+pub(crate) fn restart<P: RestartPolicy>(
+    policy: &mut P,
+    at: &mut Progress,
+    branch: &[u32],
+    base: &mut [u32],
+)
     requires within { ⌜ now at .«branch_len» ≤ length (now branch) ⌝ }
     requires few { ⌜ now at .«branch_len» ≤ 12800 ⌝ }
     requires room { ⌜ now at .«base_used» + length (recorded (reduced (branch-of (now branch) (now at .«branch_len»)))) ≤ length (now base) ⌝ }
@@ -55,7 +60,12 @@ pub(crate) fn restart<P: RestartPolicy>(policy: &mut P, at: &mut Progress, branc
 }
 
 // Decide: the group and channel that the order answers are taken.
-pub(crate) fn decide<O: Order>(order: &mut O, at: &mut Progress, domains: &[u64], branch: &mut [u32])
+pub(crate) fn decide<O: Order>(
+    order: &mut O,
+    at: &mut Progress,
+    domains: &[u64],
+    branch: &mut [u32],
+)
     requires groups { ⌜ length (now domains) ≤ 200 ⌝ }
     requires wide { ⌜ ((g : ℕ) × Open (now domains) g) ⌝ }
     requires room { ⌜ now at .«branch_len» < length (now branch) ⌝ }

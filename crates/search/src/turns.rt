@@ -23,14 +23,13 @@ use propagation::records::Assignment;
 use propagation::records::RuleEnd;
 use rules::book::RuleBook;
 
-// What a turn came to: an end, a stop, or a move.
+// What a turn came to: an end, a stop, a close or a restart, or a decision.
 #[derive(Clone, Copy)]
 pub(crate) enum Step {
     None,
     Plan,
     Spent,
-    Closed,
-    Restarted,
+    Moved,
     Decided,
 }
 
@@ -52,7 +51,7 @@ fn turn_dead<O: Order>(order: &mut O, left: u32, at: &mut Progress, branch: &mut
             }
             let group = close(at, branch, last);
             order.told(group);
-            Step::Closed
+            Step::Moved
         }
     }
 }
@@ -104,7 +103,7 @@ fn turn_alive<O: Order, P: RestartPolicy>(
     }
     if is_due(policy, at, branch, base) {
         restart(policy, at, branch, base);
-        return Step::Restarted;
+        return Step::Moved;
     }
     decide(order, at, domains, branch);
     Step::Decided
@@ -135,9 +134,27 @@ fn refresh<B: RuleBook>(
     let len = at.branch_len as usize;
     let used = at.base_used as usize;
     if decided {
-        return propagate_decision(lists, book, &branch[0..len], &base[0..used], domains, marks, ends, settled);
+        return propagate_decision(
+            lists,
+            book,
+            &branch[0..len],
+            &base[0..used],
+            domains,
+            marks,
+            ends,
+            settled,
+        );
     }
-    propagate(lists, book, &branch[0..len], &base[0..used], domains, marks, ends, settled)
+    propagate(
+        lists,
+        book,
+        &branch[0..len],
+        &base[0..used],
+        domains,
+        marks,
+        ends,
+        settled,
+    )
 }
 
 // One turn, with `left` moves to go; `decided` says that the turn before was a decision.
@@ -168,8 +185,27 @@ pub(crate) fn turn<B: RuleBook, O: Order, P: RestartPolicy>(
     ensures beyond { λ _. ⌜ Beyond (length (now (lists .entry))) (B·RuleBook .meaning (now (book .entry)) .count) (now (domains .entry)) (now (domains .exit)) (now (marks .entry)) (now (marks .exit)) (now (ends .entry)) (now (ends .exit)) (now (settled .entry)) (now (settled .exit)) ⌝ }
     ensures kept { λ _. ⌜ Kept-words (length (now (lists .entry))) (now (at .entry) .«base_used») (now (at .exit) .«base_used») (now (branch .entry)) (now (branch .exit)) (now (base .entry)) (now (base .exit)) ⌝ }
 {
-    if !refresh(decided, lists, book, at, branch, base, domains, marks, ends, settled) {
+    if !refresh(
+        decided,
+        lists,
+        book,
+        at,
+        branch,
+        base,
+        domains,
+        marks,
+        ends,
+        settled,
+    ) {
         return turn_dead(order, left, at, branch);
     }
-    turn_alive(order, policy, left, at, &domains[0..lists.len()], branch, base)
+    turn_alive(
+        order,
+        policy,
+        left,
+        at,
+        &domains[0..lists.len()],
+        branch,
+        base,
+    )
 }

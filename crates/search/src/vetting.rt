@@ -41,7 +41,9 @@ fn counts_agree(lists: usize, groups: u16, rules: u32) -> bool
 fn counts_fit(lists: usize, groups: u16, rules: u32, searched: u16) -> bool
     ensures { λ r. ⌜ r ≡ ((leb 1 lists && leb lists 200) && ((eqb groups lists && leb rules 4096) && eqb searched lists)) ⌝ }
 {
-    lists >= 1 && lists <= 200 && (groups as usize == lists && rules <= 4096 && searched as usize == lists)
+    lists >= 1
+        && lists <= 200
+        && (groups as usize == lists && rules <= 4096 && searched as usize == lists)
 }
 
 // The lowest group whose list is empty.
@@ -243,7 +245,14 @@ pub(crate) fn vet_sitting<B: RuleBook>(
     if let Some(group) = first_empty(lists) {
         return Some(Refusal::EmptyList(group));
     }
-    if !regions_fit(search.groups, rules, search.at.base_used, sizes, branch.len(), base.len()) {
+    if !regions_fit(
+        search.groups,
+        rules,
+        search.at.base_used,
+        sizes,
+        branch.len(),
+        base.len(),
+    ) {
         return Some(Refusal::RegionTooShort);
     }
     if !allowance_fits(allowance) {

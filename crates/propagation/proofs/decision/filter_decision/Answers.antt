@@ -6,8 +6,7 @@ use Rattle.std.specs.shelf.Lists.{All}
 use Rattle.model.specs.Words.{base-of, branch-of}
 use Rattle.model.specs.Remains.{Family, family}
 use Rattle.propagation.specs.Bases.{Grouped}
-use Rattle.propagation.proofs.Filtering.{agrees-of, doomed, lives}
-use Rattle.propagation.proofs.Existing.{doomed-dies}
+use Rattle.propagation.proofs.Filtering.{agrees-of, doomed, doomed-dies, lives}
 use Rattle.propagation.proofs.Starting.{taken-inside}
 use Rattle.propagation.proofs.Deciding.{alive-some, decided-carries, decided-inside, decided-obeys}
 use Rattle.propagation.proofs.decision.filter_decision.Needs as need
@@ -20,13 +19,14 @@ resume-requires g c κs =
     let ms = c .args .domains .now in
     let here : getD ws (length ws - 1) 0 / 64 < length ms = omega (arith, c .pre .group, c .pre .size) in
     record {
+      wired = c .pre .wired;
       groups = c .pre .size ∙ c .pre .groups;
       narrow = omega (arith, c .pre .narrow, c .pre .size);
       rules = c .pre .rules;
       places = omega (arith, c .pre .places, ap length (c .over-waiting .ensures .sized));
-      slots = omega (arith, c .pre .slots, c .pre .size, ap length (c .over-fixed .ensures .sized));
+      slots = omega (arith, c .pre .slots, c .pre .size, ap length (c .over-singles .ensures .sized));
       words = c .pre .words;
-      free = (c .over-waiting .ensures .empty, c .over-fixed .ensures .empty);
+      free = (c .over-waiting .ensures .empty, c .over-singles .ensures .empty);
       alive = alive-some ls ms (c .pre .size) (c .pre .before .alive);
       grouped = subst (λ (n : ℕ). All (Grouped n) (base-of (c .args .base .now))) (sym (c .pre .size)) (c .pre .grouped);
       agrees = agrees-of ls m (base-of (c .args .base .now)) (branch-of ws (length ws - 1)) (family ms) (c .pre .before .remains .meets);
@@ -52,7 +52,7 @@ returns g c =
     let r = c .resume .ensures in
     let carries = decided-carries ls m base ws fits ms (c .pre .before) (c .pre .some) (c .pre .taken) k here bits ms′ (r .within) in
     record {
-      dead = λ e. doomed-dies ls m law base (branch-of ws (length ws)) fits (doomed ls m base ws fits ms′ size carries (r .dead e));
+      dead = λ e. doomed-dies ls m law base (branch-of ws (length ws)) (doomed ls m base ws fits ms′ size carries (r .dead e));
       lives = λ e. lives ls m base ws fits ms′ size small carries
           (decided-inside ls m base ws fits ms (c .pre .before) (c .pre .some) (c .pre .taken) k here bits (family ms′) (r .inside e))
           (decided-obeys ls m base ws fits ms (c .pre .before) (c .pre .some) (c .pre .taken) k here bits (family ms′) (r .inside e)) (r .agrees e) (r .alive e);

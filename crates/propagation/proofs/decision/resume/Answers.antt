@@ -23,6 +23,7 @@ pub shrink-requires : need.shrink-requires
 shrink-requires g c κs =
     let m = g .B·RuleBook .meaning (c .args .book .now) in
     record {
+      wired = c .pre .wired;
       held = record {
         groups = c .pre .groups;
         line = line-none (m .count) (queued (c .args .ends .now)) (c .clear .last .marks) (c .pre .free .0) (c .clear .ensures);
@@ -61,6 +62,7 @@ work-requires g c κs =
     let step = c .shrink .ensures .step ok in
     let size : length ms ≡ length (c .shrink .last .domains) = sym (c .shrink .kept .domains) in
     record {
+      wired = c .pre .wired;
       held = c .shrink .ensures .held ok;
       going = record {
         calm = calm-step m d1 d2 step (agrees-calm m base ms (d1 .ends) (c .pre .agrees));

@@ -7,8 +7,7 @@ use Rattle.model.specs.Words.{base-of}
 use Rattle.propagation.proofs.Starting.{obeys-inside}
 use Rattle.model.specs.Words.{decision}
 use Rattle.model.specs.Remains.{family}
-use Rattle.propagation.proofs.Filtering.{doomed, lives}
-use Rattle.propagation.proofs.Existing.{doomed-dies}
+use Rattle.propagation.proofs.Filtering.{doomed, doomed-dies, lives}
 use Rattle.model.specs.Words.{branch-of}
 use Rattle.propagation.proofs.filter.filter.Needs as need
 
@@ -20,7 +19,7 @@ returns-then-not-prepare g c =
     let fits : (i : ℕ) → getD ls i 0 < 2 ^ 64 = λ i. omega (arith, c .typed .lists i) in
     let size : length (c .prepare .last .domains) ≡ length ls = c .prepare .kept .domains ∙ c .pre .size in
     record {
-      dead = λ _. doomed-dies ls m law (base-of (c .args .base .now)) (branch-of (c .args .branch .now) (length (c .args .branch .now))) fits
+      dead = λ _. doomed-dies ls m law (base-of (c .args .base .now)) (branch-of (c .args .branch .now) (length (c .args .branch .now)))
           (doomed ls m (base-of (c .args .base .now)) (c .args .branch .now) fits (c .prepare .last .domains) size
           (λ k o a ins. c .prepare .ensures .within k o ins) (c .prepare .ensures .dead (c .if-not-prepare .taken)));
       lives = λ z. absurd (false≢true z);
@@ -40,7 +39,7 @@ returns g c =
     let p = c .prepare .ensures in
     let r = c .run .ensures in
     record {
-      dead = λ e. doomed-dies ls m law base (branch-of ws (length ws)) fits (doomed ls m base ws fits ms size (λ k o a ins. r .within k a (p .within k o ins)) (r .dead e));
+      dead = λ e. doomed-dies ls m law base (branch-of ws (length ws)) (doomed ls m base ws fits ms size (λ k o a ins. r .within k a (p .within k o ins)) (r .dead e));
       lives = λ e. lives ls m base ws fits ms size small (λ k o a ins. r .within k a (p .within k o ins)) (λ x y h. p .inside x y (r .inside e x y h))
           (λ i l. obeys-inside (family ms) (family (c .prepare .last .domains)) (decision (getD ws i 0)) (r .inside e) (p .obeys i l)) (r .agrees e) (r .alive e);
     }

@@ -26,6 +26,7 @@ pub heed-all-requires : need.heed-all-requires
 heed-all-requires g c κs =
     let m = g .B·RuleBook .meaning (c .args .book .now) in
     record {
+      wired = c .pre .wired;
       held = record {
         groups = c .pre .groups;
         line = subst (λ (x : ℕ). Line x (queued (c .add-all .last .ends)) (c .add-all .last .marks)) (c .count .ensures) (c .add-all .ensures .line);
@@ -59,6 +60,7 @@ work-requires g c κs =
     let size : length ms ≡ length (c .heed-all .last .domains) = sym (c .heed-all .kept .domains) in
     let calm = calm-all m law ms (queued (c .add-all .last .ends)) (λ i s l. c .add-all .ensures .all i s (omega (arith, l, c .count .ensures))) in
     record {
+      wired = c .pre .wired;
       held = c .heed-all .ensures .held ok;
       going = record { calm = calm-step m d1 d2 (c .heed-all .ensures .step ok) calm; good = c .heed-all .ensures .good ok };
       grouped = subst (λ (n : ℕ). All (Grouped n) (base-of (c .args .base .now))) size (c .pre .grouped);

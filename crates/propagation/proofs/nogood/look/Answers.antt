@@ -18,6 +18,7 @@ remove-requires g c κs =
     let t = c .in-Some .ensures tt in
     let b = all-getD (λ v. v / 64 < length (c .args .domains .now)) (c .args .nogood .now) (t .0) 0 (t .1) (c .pre .grouped) in
     record {
+      wired = c .pre .wired;
       held = c .pre .held;
       group = subst (λ (x : ℕ). x / 64 < length (c .args .domains .now)) (sym (t .2)) b;
       narrow = c .pre .narrow;

@@ -4,7 +4,6 @@ use mathlib.Core.Bool.{Bool, true, false}
 use mathlib.Core.List.{List, _∷_, [], _++_}
 use Prim.Native.Nat.{ℕ, _<_, _^_}
 use native.Mathlib.Omega.{arith}
-use lib.Count.{trailingZeros}
 use borrow.Author.Needs.{needs}
 use Rattle.std.proofs.shelf.Tests.{both-ways, cases-eq}
 use Rattle.rules.specs.Channels.{has}
@@ -12,15 +11,15 @@ use Rattle.propagation.specs.Waiting.{queued, size}
 use Rattle.propagation.proofs.Lines.{either-way}
 use Rattle.propagation.specs.Desks.{Noting, Two, Sole, assignment}
 use Rattle.propagation.specs.declared.records.Assignment.{Assignment}
-use Rattle.propagation.proofs.Digits.{trailing-has, has-some, cut-inside, cut-other, cut-stays, has-none}
+use Rattle.propagation.proofs.Digits.{has-some, cut-inside, cut-other, cut-stays, has-none}
 use Rattle.propagation.proofs.shrink.settle.Needs as need
 
 pub returns-then-without-eq0 : need.returns-then-without-eq0
 returns-then-without-eq0 c =
     let m = c .args .keeps in
     let fits : m < 2 ^ 64 = omega arith in
-    let k = trailingZeros 64 m in
-    let h = trailing-has m (c .pre .some) fits in
+    let k = c .lowest-c .result in
+    let h = c .lowest-c .ensures .there in
     let q = queued (c .args .settled .now) in
     let sole : (j : ℕ) → has m j ≡ true → j ≡ k = λ j e. elim (cases-eq j k) [
       | inl z ↦ z
@@ -35,8 +34,8 @@ pub returns-else-without-eq0 : need.returns-else-without-eq0
 returns-else-without-eq0 c =
     let m = c .args .keeps in
     let fits : m < 2 ^ 64 = omega arith in
-    let k = trailingZeros 64 m in
-    let h = trailing-has m (c .pre .some) fits in
+    let k = c .lowest-c .result in
+    let h = c .lowest-c .ensures .there in
     let r = c .without .result in
     let b = c .without .ensures .bits in
     let t = has-some r (omega arith) (c .if-without-eq0 .left) in

@@ -5,5 +5,9 @@ use Rattle.rules.specs.Channels.{has}
 use Rattle.propagation.specs.Supports.{allows}
 use Rattle.propagation.proofs.support.backed.Given as given
 
-abbrev pub Inv-loop-b : given.InvT-loop-b
-Inv-loop-b g l = (k : ℕ) → k < l .b → has (l .across) k ≡ true → allows (g .B·RuleBook .meaning (l .book)) (l .rule) (l .second) (l .a) k ≡ true → ⊥
+abbrev pub Inv-loop-left : given.InvT-loop-left
+Inv-loop-left g l = ((j : ℕ) → has (l .left) j ≡ true → has (l .across) j ≡ true)
+    × ((j : ℕ) → has (l .across) j ≡ true → allows (g .B·RuleBook .meaning (l .book)) (l .rule) (l .second) (l .a) j ≡ true → has (l .left) j ≡ true)
+
+abbrev pub μ-loop-left : given.MeasureT-loop-left
+μ-loop-left g l = l .left

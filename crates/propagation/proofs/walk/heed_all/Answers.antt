@@ -25,6 +25,7 @@ look-unless-requires g c κs =
     let part = take (c .part-end-end .result - (c .loop-pos .pos + 1)) (drop (c .loop-pos .pos + 1) (c .args .base .now)) in
     let size : length (c .args .domains .now) ≡ length (c .loop-pos .domains) = omega arith in
     record {
+      wired = c .pre .wired;
       held = i .1;
       grouped = subst (λ (n : ℕ). Grouped n part) size (all-mid (Grouped (length (c .args .domains .now))) (base-of (c .args .base .now)) (i .4 .0) part _ e (c .pre .grouped));
       narrow = omega (arith, c .pre .narrow);

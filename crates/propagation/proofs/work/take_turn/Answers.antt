@@ -23,6 +23,7 @@ pub heed-all-requires : need.heed-all-requires
 heed-all-requires g c κs =
     let h = c .pre .held in
     record {
+      wired = c .pre .wired;
       held = record {
         groups = h .groups;
         line = h .line;

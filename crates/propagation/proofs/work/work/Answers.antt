@@ -16,6 +16,7 @@ take-turn-requires g c κs =
     let i = c .loop .inv in
     let size : length (c .args .domains .now) ≡ length (c .loop .domains) = omega arith in
     record {
+      wired = c .pre .wired;
       held = i .0;
       going = i .1;
       grouped = subst (λ (n : ℕ). All (Grouped n) (base-of (c .args .base .now))) size (c .pre .grouped);

@@ -16,4 +16,5 @@ returns c = record {
   no = λ _ g o. elim (cases-lt g (length (c .args .domains .now))) [
     | inl l ↦ c .loop-d .inv g (omega arith) o
     | inr l ↦ (let z : ones (getD (c .args .domains .now) g 0) ≡ 0 = ap ones (getD-past (c .args .domains .now) g 0 l) ∙ ones-zero in let y : 2 ≤ 0 = subst (λ (k : ℕ). 2 ≤ k) z o in omega arith)
-  ] }
+  ];
+}

@@ -35,7 +35,8 @@ loop-i-again c =
           let h = copy-step ws (c .loop-i .rest) start (c .loop-i .n) (c .loop-i .i) (w .if-word-lt65536 .taken) (v .0) (omega (arith, v .0)) (v .1) in
           (w .n-is ∙ h .0, w .rest-is ∙ h .1 ∙ ap (λ k. takens (branch-of ws (c .loop-i .i + 1)) ++ drop k start) (sym (w .n-is))))
       | else-word-lt65536 w ↦ (
-          let t = takens-refused ws (c .loop-i .i) (w .if-word-lt65536 .left) in
-          (w .n-is ∙ v .0 ∙ ap length (sym t),
-           w .rest-is ∙ v .1 ∙ ap (λ xs. xs ++ drop (c .loop-i .n) start) (sym t) ∙ ap (λ k. takens (branch-of ws (c .loop-i .i + 1)) ++ drop k start) (sym (w .n-is))))
+          let t = takens-refused ws (c .loop-i .i) (w .if-word-lt65536 .left) in (
+            w .n-is ∙ v .0 ∙ ap length (sym t),
+            w .rest-is ∙ v .1 ∙ ap (λ xs. xs ++ drop (c .loop-i .n) start) (sym t) ∙ ap (λ k. takens (branch-of ws (c .loop-i .i + 1)) ++ drop k start) (sym (w .n-is)),
+          ))
     ]

@@ -74,7 +74,8 @@ loop-i-again c =
           (w .base-is ∙ base-written (c .loop-i .base) (w .write-nogood-at .last .rest) (nogood-at ws (c .loop-i .i)) (c .loop-i .at) (w .write-nogood-at .ensures .wrote))
           (w .at-is ∙ ap (λ k. c .loop-i .at + k) (w .write-nogood-at .ensures .words))
       | else-branch-i-ge65536 w ↦ (
-          let t = ap recorded (reduced-taken ws (c .loop-i .i) (w .if-branch-i-ge65536 .left)) in
-          (w .at-is ∙ v .0 ∙ ap (λ xs. c .args .used + length xs) (sym t),
-           w .base-is ∙ v .1 ∙ ap (λ xs. take (c .args .used) start ++ (xs ++ drop (c .loop-i .at) start)) (sym t) ∙ ap (λ k. take (c .args .used) start ++ (recorded (reduced (branch-of ws (c .loop-i .i + 1))) ++ drop k start)) (sym (w .at-is))))
+          let t = ap recorded (reduced-taken ws (c .loop-i .i) (w .if-branch-i-ge65536 .left)) in (
+            w .at-is ∙ v .0 ∙ ap (λ xs. c .args .used + length xs) (sym t),
+            w .base-is ∙ v .1 ∙ ap (λ xs. take (c .args .used) start ++ (xs ++ drop (c .loop-i .at) start)) (sym t) ∙ ap (λ k. take (c .args .used) start ++ (recorded (reduced (branch-of ws (c .loop-i .i + 1))) ++ drop k start)) (sym (w .at-is)),
+          ))
     ]

@@ -29,11 +29,11 @@ propagate-decision-requires g c κs =
     let inside : n ≤ length ws = omega (arith, f .branch-in, f .branch-room) in
     let long = front-length ws n inside in
     let last : getD (take (n - 0) ws) (length (take (n - 0) ws) - 1) 0 ≡ getD ws (n - 1) 0 =
-      ap (λ k. getD (take (n - 0) ws) (k - 1) 0) long ∙ front-word ws n inside (n - 1) (omega arith) in
+    ap (λ k. getD (take (n - 0) ws) (k - 1) 0) long ∙ front-word ws n inside (n - 1) (omega arith) in
     let low : getD (take (n - 0) ws) (length (take (n - 0) ws) - 1) 0 < 65536 = subst (λ (k : ℕ). k < 65536) (sym last) (fr .taken) in
     let listed = listed-word lists ws n (f .sound) (n - 1) (omega arith) .group in
     let before : branch-of (take (n - 0) ws) (length (take (n - 0) ws) - 1) ≡ branch-of ws (n - 1) =
-      ap (λ k. branch-of (take (n - 0) ws) (k - 1)) long ∙ front-branch ws n inside (n - 1) (omega arith) in
+    ap (λ k. branch-of (take (n - 0) ws) (k - 1)) long ∙ front-branch ws n inside (n - 1) (omega arith) in
     record {
       groups = sym (c .pre .groups);
       size = r .domains;

@@ -17,10 +17,11 @@ returns-then-not-nogood-sound c =
     ∙ ap (λ b. b && base? (c .args .lists .now) (drop (c .loop-pos .pos + (1 + getD (c .args .base .now) (c .loop-pos .pos) 0)) (c .args .base .now))) (sym (c .if-not-nogood-sound .ensures tt)))
 
 pub loop-pos-again : need.loop-pos-again
-loop-pos-again c =
-    (omega arith,
-     c .loop-pos .inv .1 ∙ base-turn (c .args .lists .now) (c .args .base .now) (c .loop-pos .pos) (getD (c .args .base .now) (c .loop-pos .pos) 0) (omega arith) refl (omega arith)
-     ∙ ap (λ b. b && base? (c .args .lists .now) (drop (c .loop-pos .pos + (1 + getD (c .args .base .now) (c .loop-pos .pos) 0)) (c .args .base .now))) (sym (c .if-not-nogood-sound .ensures tt)))
+loop-pos-again c = (
+  omega arith,
+  c .loop-pos .inv .1 ∙ base-turn (c .args .lists .now) (c .args .base .now) (c .loop-pos .pos) (getD (c .args .base .now) (c .loop-pos .pos) 0) (omega arith) refl (omega arith)
+      ∙ ap (λ b. b && base? (c .args .lists .now) (drop (c .loop-pos .pos + (1 + getD (c .args .base .now) (c .loop-pos .pos) 0)) (c .args .base .now))) (sym (c .if-not-nogood-sound .ensures tt)),
+)
 
 pub returns : need.returns
 returns c = sym (c .loop-pos .inv .1 ∙ ap (base? (c .args .lists .now)) (drop-all (c .loop-pos .pos) (c .args .base .now) (omega arith)))

@@ -15,10 +15,11 @@ loop-i-again c =
     let ws = c .args .branch .now in
     let i = c .loop-i .i in
     let v = c .loop-i .inv in
-    let e = c .if-not-admit .ensures tt in
-    (c .admit .kept .free ∙ v .0,
-     branch-more lists ws i (sym (e .verdict lists (branch-of ws i) refl (v .2))) (v .1),
-     branch-step lists ws (c .admit .last .free) i (e .after refl lists (branch-of ws i) refl (v .2)))
+    let e = c .if-not-admit .ensures tt in (
+      c .admit .kept .free ∙ v .0,
+      branch-more lists ws i (sym (e .verdict lists (branch-of ws i) refl (v .2))) (v .1),
+      branch-step lists ws (c .admit .last .free) i (e .after refl lists (branch-of ws i) refl (v .2)),
+    )
 
 pub returns-then-not-admit : need.returns-then-not-admit
 returns-then-not-admit c =
