@@ -22,6 +22,7 @@ use Rattle.laws.specs.Words.{listed?, free?, branch?, apart?, some?, nogood?, b
 use Rattle.laws.proofs.Words.{base-step, base-short}
 use Rattle.laws.specs.Requests.{Refusal, unless, first-of, empty-at, empty-from}
 use Rattle.search.specs.Calls.{Free-for}
+use Rattle.search.proofs.Fronts.{less-none, whole-branch}
 
 -- The lowest empty list.
 empty-nothing : (m g : ℕ) (later : Refusal) → m ≡ 0 → empty-at m g later ≡ Some (3, g)
@@ -247,3 +248,10 @@ pass-none (Some x) rs e = absurd (let z : _≡_ {A = ℕ} 0 1 = cc in omega arit
 pub fail-some : (r : Refusal) (x : ℕ × ℕ) (rs : List Refusal) → r ≡ Some x → first-of (r ∷ rs) ≡ Some x
 fail-some None x rs e = absurd (let z : _≡_ {A = ℕ} 0 1 = cc in omega arith)
 fail-some (Some y) x rs e = e
+
+-- The tests of the first words, as they were made.
+pub branch-is : (lists ws : List ℕ) (n : ℕ) (b : Bool) → n ≤ length ws → b ≡ branch? lists (branch-of (take (n - 0) ws) (length (take (n - 0) ws))) → branch? lists (branch-of ws n) ≡ b
+branch-is lists ws n b l e = sym (e ∙ ap (branch? lists) (whole-branch ws n l))
+
+pub base-is : (lists ws : List ℕ) (n : ℕ) (b : Bool) → b ≡ base? lists (take (n - 0) ws) → base? lists (take n ws) ≡ b
+base-is lists ws n b e = sym (e ∙ ap (λ k. base? lists (take k ws)) (less-none n))

@@ -1,15 +1,15 @@
 -- What a call on a search is given, and what it answers and leaves.
-use Prim.Native.Nat.{ℕ, _*_, _<_}
+use Prim.Native.Nat.{ℕ, _+_, _*_, _<_}
 use mathlib.Core.Path.{_≡_}
 use mathlib.Core.Bool.{_&&_}
 use mathlib.Core.List.{List, [], _∷_}
-use lib.Dec.{ltb}
+use lib.Dec.{ltb, leb}
 use lib.ListN.{length, getD, take, drop}
 use Rattle.rules.specs.Channels.{has}
 use Rattle.rules.specs.Meanings.{Meaning}
 use Rattle.model.specs.Masks.{grp, chan}
-use Rattle.model.specs.Decisions.{Decision}
-use Rattle.model.specs.Words.{branch-of}
+use Rattle.model.specs.Decisions.{Decision, reduced}
+use Rattle.model.specs.Words.{branch-of, recorded}
 use Rattle.laws.specs.Words.{listed?, free?, branch?, base?}
 use Rattle.laws.specs.Requests.{Request, Refusal, unless}
 use Rattle.search.specs.declared.held.Progress.{Progress}
@@ -67,4 +67,13 @@ word-checks groups p lists branch base =
     unless (branch? lists (branch-of branch (p .«branch_len»))) 13
     ∷ unless (base? lists (take (p .«base_used») base)) 16
     ∷ unless (ltb (p .«branch_len») (64 * groups)) 20
+    ∷ []
+
+-- The checks of the words of a search that is restarted.
+abbrev pub nogood-checks : Progress → List ℕ → List ℕ → List ℕ → List Refusal
+nogood-checks p lists branch base =
+    unless (branch? lists (branch-of branch (p .«branch_len»))) 13
+    ∷ unless (base? lists (take (p .«base_used») base)) 16
+    ∷ unless (leb 1 (p .since)) 14
+    ∷ unless (leb (p .«base_used» + length (recorded (reduced (branch-of branch (p .«branch_len»))))) (length base)) 15
     ∷ []

@@ -7,7 +7,7 @@ use lib.ListN.{length, take, drop}
 use Rattle.std.specs.declared.option.Option.the-variants.{Some, None}
 use Rattle.std.specs.declared.result.Result.{Result}
 use Rattle.std.specs.declared.result.Result.the-variants.{Ok, Err}
-use Rattle.rules.specs.Meanings.{Meaning}
+use Rattle.rules.specs.Meanings.{Meaning, Lawful}
 use Rattle.rules.specs.Refusals.{told}
 use Rattle.rules.specs.declared.refusal.Refusal.{Refusal}
 use Rattle.branching.specs.Order.{OrderMeaning}
@@ -20,8 +20,8 @@ use Rattle.propagation.specs.declared.records.Assignment.{Assignment}
 use Rattle.laws.specs.Orders.{held-after, behaviour, moved-on, cutoffs}
 use Rattle.laws.specs.Sittings.{Search, begun, Verdict, none, plan, unsettled, Leaves, Sits}
 use Rattle.laws.specs.Requests.{Request, open-refusal, sitting-refusal}
-use Rattle.laws.specs.Runs.{Found}
-use Rattle.laws.specs.Law.{Continues}
+use Rattle.laws.specs.Runs.{Carried, Found, Run}
+use Rattle.laws.specs.Law.{Law, Continues}
 use Rattle.search.specs.declared.held.Counts.{Counts}
 use Rattle.search.specs.declared.held.Progress.{Progress}
 use Rattle.search.specs.declared.held.OpenSearch.{OpenSearch}
@@ -97,11 +97,12 @@ module _ {O P H Q : Type 0} (om : OrderMeaning H) (pm : PolicyMeaning Q) (order-
     pub next : Found lists (request t lists book allowance left) (comes .end .state)
     pub plan : left .plan ≡ found .plan
 
-  -- The sitting is refused: the first number of its checks with its place, the search handed back, and all as found.
+  -- The sitting is refused: the first number of its checks with its place, the search handed back, and all as found. A run on any lists and book goes on with the search it had.
   pub record Refused (e : Refusal × OpenSearch) : Type 0 where
     pub number : sitting-refusal (request s lists book allowance found) ≡ Some (told (e .0))
     pub handed-back : e .1 ≡ s
     pub same : left ≡ found
+    pub continues : (own : List ℕ) (meant : Meaning) → Lawful meant → (t : State) → Carried (length own) (request s lists book allowance found) t → Continues own meant t unsettled t
 
   abbrev pub Answers : Result Sat (Refusal × OpenSearch) → Type 0
   Answers (Ok (Sat-plan d)) = Planned d
@@ -109,12 +110,13 @@ module _ {O P H Q : Type 0} (om : OrderMeaning H) (pm : PolicyMeaning Q) (order-
   Answers (Ok (Sat-open t)) = Stays t
   Answers (Err e) = Refused e
 
--- An open gives a search with nothing on its branch and in its base, or the first number of its checks.
+-- An open gives a search with nothing on its branch and in its base, where a run begins by the law of runs; or the first number of its checks.
 pub record Opened (book : Meaning) (lists : List ℕ) (t : OpenSearch) : Type 0 where
   pub accepted : open-refusal (opening lists (book .groups) (book .count)) ≡ None
   pub groups : t .groups ≡ length lists
-  pub state : (base : List ℕ) → state-of (t .at) [] base ≡ start
+  pub state : (branch base : List ℕ) → state-of (t .at) branch base ≡ start
   pub used : t .at .«base_used» ≡ 0
+  pub begins : (run : Run lists book unsettled start) × Law lists book run
 
 abbrev pub Unopened : Meaning → List ℕ → Refusal → Type 0
 Unopened book lists e = open-refusal (opening lists (book .groups) (book .count)) ≡ Some (told e)

@@ -1,18 +1,21 @@
-// The calls on a search: open and sitting.
+// The calls on a search: open, sitting and restart.
 ghost use mathlib.Core.Path.{_≡_};
 ghost use Prim.Native.Nat.{ℕ, _^_, _<_, _≤_};
 ghost use lib.Count.{trailingZeros};
 ghost use lib.ListN.{length, getD, drop};
 ghost use Rattle.std.specs.Results.{Cases};
 ghost use Rattle.search.specs.Sittings.{lent, Opened, Unopened, Answers};
+ghost use Rattle.search.specs.Restarts.{Restart-answers};
 use crate::held::OpenSearch;
 use crate::held::Progress;
 use crate::held::Sat;
 use crate::held::SettledSearch;
+use crate::moves::restart as restart_move;
 use crate::turns::Step;
 use crate::turns::turn;
 use crate::vetting::Sizes;
 use crate::vetting::vet_open;
+use crate::vetting::vet_restart;
 use crate::vetting::vet_sitting;
 use branching::Order;
 use branching::RestartPolicy;
@@ -122,4 +125,23 @@ pub fn sitting<B: RuleBook, O: Order, P: RestartPolicy>(
             }
         }
     }
+}
+
+// Makes the restart move on a search, at any cutoff.
+pub fn restart<P: RestartPolicy>(
+    search: OpenSearch,
+    lists: &[u64],
+    policy: &mut P,
+    branch: &[u32],
+    base: &mut [u32],
+) -> Result<OpenSearch, (Refusal, OpenSearch)>
+    ensures { λ r. ⌜ Restart-answers meaning held «search» (now (lists .entry)) (now (branch .entry)) (now (base .entry)) (now (base .exit)) (now (policy .entry)) (now (policy .exit)) r ⌝ }
+{
+    if let Some(refusal) = vet_restart(&search, lists, branch, base) {
+        return Err((refusal, search));
+    }
+    let OpenSearch { groups, at: start } = search;
+    let mut at = start;
+    restart_move(policy, &mut at, branch, base);
+    Ok(OpenSearch { groups, at })
 }

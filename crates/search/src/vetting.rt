@@ -12,9 +12,11 @@ ghost use Rattle.model.specs.Decisions.{Decision, taken, refused, word as assig
 ghost use Rattle.model.specs.Words.{decision, branch-of};
 ghost use Rattle.model.specs.Lists.{all};
 ghost use Rattle.laws.specs.Words.{listed?, free?, branch?, nogood?, base?};
-ghost use Rattle.laws.specs.Requests.{empty-from, first-of, open-refusal, sitting-refusal};
-ghost use Rattle.search.specs.Calls.{asking, opening, word-checks, Free-for};
+ghost use Rattle.laws.specs.Requests.{empty-from, first-of, open-refusal, sitting-refusal, restart-refusal};
+ghost use Rattle.search.specs.Restarts.{recall};
+ghost use Rattle.search.specs.Calls.{asking, opening, word-checks, nogood-checks, Free-for};
 use crate::held::OpenSearch;
+use crate::words::words_needed;
 use propagation::bits::holds;
 use propagation::bits::without;
 use rules::book::RuleBook;
@@ -262,4 +264,67 @@ pub(crate) fn vet_sitting<B: RuleBook>(
         return Some(Refusal::TooManyMoves);
     }
     vet_words(search, lists, branch, base)
+}
+
+// Whether there are 1 to 200 lists, and the search has as many groups.
+fn groups_fit(lists: usize, searched: u16) -> bool
+    ensures { λ r. ⌜ r ≡ ((leb 1 lists && leb lists 200) && eqb searched lists) ⌝ }
+{
+    (lists >= 1 && lists <= 200) && searched as usize == lists
+}
+
+// Whether the regions of the branch and the base are large enough, and the base not too large.
+fn words_fit(groups: u16, used: u32, branch: usize, base: usize) -> bool
+    ensures { λ r. ⌜ r ≡ ((leb used base && leb base 65536) && leb (64 * groups) branch) ⌝ }
+{
+    (used as usize <= base && base <= 65536) && 64 * groups as usize <= branch
+}
+
+// Why the words of a search that is restarted are refused, its counts and regions being fine.
+fn vet_nogoods(search: &OpenSearch, lists: &[u64], branch: &[u32], base: &[u32]) -> Option<Refusal>
+    requires few { ⌜ length (now lists) ≤ 200 ⌝ }
+    requires short { ⌜ now «search» .at .«branch_len» ≤ 12800 ⌝ }
+    requires branch { ⌜ now «search» .at .«branch_len» ≤ length (now branch) ⌝ }
+    requires base { ⌜ now «search» .at .«base_used» ≤ length (now base) ⌝ }
+    ensures { λ r. ⌜ Cases r (first-of (nogood-checks (now («search» .entry) .at) (now (lists .entry)) (now (branch .entry)) (now (base .entry))) ≡ None) (λ e. first-of (nogood-checks (now («search» .entry) .at) (now (lists .entry)) (now (branch .entry)) (now (base .entry))) ≡ Some (told e)) ⌝ }
+{
+    let len = search.at.branch_len as usize;
+    let used = search.at.base_used as usize;
+    if !branch_sound(lists, &branch[0..len]) {
+        return Some(Refusal::BranchDisturbed);
+    }
+    if !base_sound(lists, &base[0..used]) {
+        return Some(Refusal::BaseDisturbed);
+    }
+    if search.at.since == 0 {
+        return Some(Refusal::NothingClosed);
+    }
+    if words_needed(branch, len) > base.len() - used {
+        return Some(Refusal::BaseFull);
+    }
+    None
+}
+
+// Why a restart is refused.
+pub(crate) fn vet_restart(
+    search: &OpenSearch,
+    lists: &[u64],
+    branch: &[u32],
+    base: &[u32],
+) -> Option<Refusal>
+    ensures { λ r. ⌜ Cases r (restart-refusal (recall (now («search» .entry)) (now (lists .entry)) (now (branch .entry)) (now (base .entry))) ≡ None) (λ e. restart-refusal (recall (now («search» .entry)) (now (lists .entry)) (now (branch .entry)) (now (base .entry))) ≡ Some (told e)) ⌝ }
+{
+    if !groups_fit(lists.len(), search.groups) {
+        return Some(Refusal::Counts);
+    }
+    if let Some(group) = first_empty(lists) {
+        return Some(Refusal::EmptyList(group));
+    }
+    if !words_fit(search.groups, search.at.base_used, branch.len(), base.len()) {
+        return Some(Refusal::RegionTooShort);
+    }
+    if search.at.moves + 1 > 100_000_000 {
+        return Some(Refusal::TooManyMoves);
+    }
+    vet_nogoods(search, lists, branch, base)
 }

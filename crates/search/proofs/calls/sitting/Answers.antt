@@ -12,7 +12,9 @@ use Rattle.model.specs.Moves.{State}
 use Rattle.laws.specs.Sittings.{Search, Sits, none, plan, unsettled, ends-none, ends-plan, spent}
 use Rattle.laws.specs.Orders.{behaviour, cutoffs}
 use Rattle.search.specs.Turns.{state-of}
-use Rattle.search.specs.Sittings.{lent}
+use Rattle.rules.specs.Refusals.{told}
+use Rattle.laws.proofs.Runs.{refused-continues}
+use Rattle.search.specs.Sittings.{lent, request}
 use Rattle.search.proofs.Fronts.{less-none, front-length}
 use Rattle.search.proofs.Ready.{ready}
 use Rattle.search.proofs.Along.{at, along-more, comes, found-open, held-bounds, single}
@@ -171,3 +173,15 @@ returns-in-Plan g c =
     (t .0 .state) (t .0 .order) (t .0 .policy) (ends-plan masks (t .1) (take (length lists) xs) (length-take-le (length lists) xs roomy) one) (inl (t .1)) (e .fit) (e .beyond) (e .kept) in
     let n = c .counts-in-Plan .ensures in
     ((c .turn-step .last .at, r, record { moves = n .0 ∙ ap (λ (x : State). x .moves) (r .state); closings = n .1 ∙ ap (λ (x : State). x .closings) (r .state); restarts = n .2 ∙ ap (λ (x : State). x .restarts) (r .state) }), ap (λ (j : ℕ). drop j xs) (sym long) ∙ w .beyond ∙ ap (λ (j : ℕ). drop j (c .moves .plan)) long ∙ ap (drop (length lists)) (i .plan))
+
+pub returns-in-Some : need.returns-in-Some
+returns-in-Some g c =
+    let found = lent (c .args .domains .now) (c .args .branch .now) (c .args .marks .now) (c .args .ends .now) (c .args .settled .now) (c .args .plan .now) (c .args .base .now) (c .args .order .now) (c .args .policy .now) in
+    let q = request (c .args .search) (c .args .lists .now) (g .B·RuleBook .meaning (c .args .book .now)) (c .args .allowance) found in
+    let e = c .in-Some .ensures tt in
+    record {
+      number = e;
+      handed-back = refl;
+      same = refl;
+      continues = λ own meant l t f. refused-continues own meant l t q f (told (c .in-Some .refusal) .0) (told (c .in-Some .refusal) .1) (inl e);
+    }

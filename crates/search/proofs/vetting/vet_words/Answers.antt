@@ -10,16 +10,8 @@ use Rattle.std.specs.declared.option.Option.the-variants.{Some, None}
 use Rattle.laws.specs.Requests.{unless, first-of}
 use Rattle.model.specs.Words.{branch-of}
 use Rattle.laws.specs.Words.{branch?, base?}
-use Rattle.search.proofs.Fronts.{less-none, whole-branch}
-use Rattle.search.proofs.Vets.{pass, fail}
+use Rattle.search.proofs.Vets.{pass, fail, branch-is, base-is}
 use Rattle.search.proofs.vetting.vet_words.Needs as need
-
--- The tests of the first words, as they were made.
-branch-is : (lists ws : List ℕ) (n : ℕ) (b : Bool) → n ≤ length ws → b ≡ branch? lists (branch-of (take (n - 0) ws) (length (take (n - 0) ws))) → branch? lists (branch-of ws n) ≡ b
-branch-is lists ws n b l e = sym (e ∙ ap (branch? lists) (whole-branch ws n l))
-
-base-is : (lists ws : List ℕ) (n : ℕ) (b : Bool) → b ≡ base? lists (take (n - 0) ws) → base? lists (take n ws) ≡ b
-base-is lists ws n b e = sym (e ∙ ap (λ k. base? lists (take k ws)) (less-none n))
 
 -- The three checks, each after those before it passed.
 module _ (a b d : Bool) where
