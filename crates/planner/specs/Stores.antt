@@ -12,7 +12,8 @@ use Rattle.std.specs.Of.Vec.{vec-items}
 use Rattle.planner.specs.declared.error.PlanError.{PlanError}
 use Rattle.planner.specs.declared.error.PlanError.the-variants.{Refused, NoMemory}
 use Rattle.planner.specs.declared.store.Store.{Store}
-use Rattle.planner.specs.Faults.{Told}
+use Rattle.jobs.specs.Numbers.{numbered}
+use Rattle.rules.specs.Refusals.{told}
 
 -- the places that the planner lends
 abbrev pub places : Room
@@ -32,5 +33,5 @@ Stored bs s = Taken bs places (s .loaded) (vec-items (s .lists)) (vec-items (s .
 
 -- there is none where the job has a fault, which the refusal tells, or where memory is wanting
 abbrev pub Unstored : List ℕ → PlanError → Type 0
-Unstored bs (Refused r) = (f : LoadFault) × Faulty bs places f × Told f r
+Unstored bs (Refused r) = (f : LoadFault) × Faulty bs places f × (told r ≡ (numbered (f .fault), f .offset))
 Unstored bs NoMemory = Unit {0}

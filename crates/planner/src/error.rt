@@ -1,9 +1,6 @@
 // Why there is no answer: the job is refused, or memory is wanting.
 ghost use mathlib.Core.Path.{_≡_};
 ghost use Rattle.planner.specs.declared.error.PlanError.the-variants.{Refused as refusedBy, NoMemory};
-ghost use Rattle.planner.specs.Faults.{Told};
-use jobs::fault::LoadFault;
-use jobs::fault::RecordFault;
 use rules::refusal::Refusal;
 use std::alloc::AllocError;
 use std::alloc::Refused as Unplaced;
@@ -15,23 +12,6 @@ pub enum PlanError {
     Refused(Refusal),
     // There is no memory for the regions or the answer.
     NoMemory,
-}
-
-// The refusal that a fault of a load is told by.
-pub fn refusal_of(fault: LoadFault) -> Refusal
-    ensures { λ r. ⌜ Told fault r ⌝ }
-{
-    let at = fault.offset;
-    match fault.fault {
-        RecordFault::Bytes(_) => Refusal::InputEnds(at),
-        RecordFault::Kind => Refusal::UnknownKind(at),
-        RecordFault::EmptyList => Refusal::EmptyList(at),
-        RecordFault::NoGroup => Refusal::NoSuchGroup(at),
-        RecordFault::SameGroups => Refusal::EqualGroups(at),
-        RecordFault::WrongCounts => Refusal::WrongCounts(at),
-        RecordFault::BytesAfter => Refusal::BytesAfterEnd(at),
-        RecordFault::NoPlace => Refusal::NoPlace(at),
-    }
 }
 
 pub impl From<Refusal> for PlanError as PlanErrorFromRefusal {

@@ -13,7 +13,6 @@ use crate::answer::Verdict;
 use crate::error::PlanError;
 use crate::error::PlanErrorFromRefusal;
 use crate::regions::Regions;
-use crate::store::book_of;
 use crate::store::load_store;
 use branching::FewestFirst;
 use branching::FewestFirstOrder;
@@ -23,6 +22,7 @@ use branching::LastConflict;
 use branching::LastConflictOrder;
 use branching::Order;
 use branching::RestartPolicy;
+use jobs::book::book;
 use rules::book::RuleBook;
 use rules::gap::GapBookRules;
 use rules::joined::JoinedRules;
@@ -166,7 +166,12 @@ pub fn solve<O: Order, P: RestartPolicy>(
     let rules = store.gaps.len() + store.tables.len();
     let mut regions = Regions::new(heap, store.lists.len(), rules, settings.base_words)?;
     let lists = store.lists.as_slice();
-    let book = book_of(job, &store);
+    let book = book(
+        job,
+        store.loaded,
+        store.gaps.as_slice(),
+        store.tables.as_slice(),
+    );
     let search = open(lists, &book)?;
     let (found, counts) = sit_on(search, lists, &book, order, policy, settings, &mut regions)?;
     Ok(answer(found, counts, regions))

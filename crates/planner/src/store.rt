@@ -8,14 +8,10 @@ ghost use Rattle.planner.specs.Stores.{Taken, Faulty, Stored, Unstored};
 ghost use Rattle.std.specs.Vec.{made};
 use crate::error::PlanError;
 use crate::error::PlanErrorFromAlloc;
-use crate::error::refusal_of;
 use jobs::fault::LoadFault;
 use jobs::load::Loaded;
 use jobs::load::load;
-use rules::gap::GapBook;
 use rules::gap::GapEntry;
-use rules::joined::Joined;
-use rules::table::TableBook;
 use rules::table::TableEntry;
 use std::alloc::Global;
 
@@ -76,21 +72,6 @@ pub fn load_store(heap: Global, job: &[u8]) -> Result<Store, PlanError>
             gaps,
             tables,
         }),
-        Err(fault) => Err(PlanError::Refused(refusal_of(fault))),
-    }
-}
-
-// The gaps joined with the tables.
-pub fn book_of<'j, 's>(job: &'j [u8], store: &'s Store) -> Joined<GapBook<'s>, TableBook<'j, 's>> {
-    Joined {
-        first: GapBook {
-            groups: store.loaded.groups,
-            entries: store.gaps.as_slice(),
-        },
-        second: TableBook {
-            groups: store.loaded.groups,
-            job,
-            entries: store.tables.as_slice(),
-        },
+        Err(fault) => Err(PlanError::Refused(fault.refusal())),
     }
 }
