@@ -2,12 +2,13 @@
 ghost use mathlib.Core.Path.{_≡_};
 ghost use Prim.Native.Nat.{_<_, _≤_};
 ghost use lib.ListN.{length};
-ghost use Rattle.std.specs.Of.Vec.{vec-len};
+ghost use Rattle.std.specs.Of.Vec.{vec-len, vec-items};
 ghost use Rattle.std.specs.declared.result.Result.the-variants.{Err};
 ghost use Rattle.rules.specs.declared.refusal.Refusal.the-variants.{NoPlace};
 ghost use Rattle.planner.specs.declared.error.PlanError.the-variants.{Refused};
 ghost use Rattle.std.specs.Results.{Cases};
-ghost use Rattle.planner.specs.Answers.{Shaped, Kept, Answered, Unanswered};
+ghost use Rattle.planner.specs.Answers.{Shaped, Kept, Goes-on, Comes, reached, told-by, Answered, Unanswered};
+ghost use Rattle.std.specs.Vec.{made};
 use crate::answer::Answer;
 use crate::answer::Verdict;
 use crate::error::PlanError;
@@ -70,7 +71,8 @@ fn sit<B: RuleBook, O: Order, P: RestartPolicy>(
     allowance: u32,
     regions: &mut Regions,
 ) -> Result<Sat, PlanError>
-    ensures { λ _. ⌜ Kept (now (regions .entry)) (now (regions .exit)) ⌝ }
+    ensures kept { λ _. ⌜ Kept (now (regions .entry)) (now (regions .exit)) ⌝ }
+    ensures goes_on { λ r. ⌜ made r (λ t. Goes-on (B·RuleBook .meaning (now (book .entry))) (now (lists .entry)) «search» (vec-items (now (regions .entry) .branch)) (vec-items (now (regions .entry) .base)) (vec-items (now (regions .exit) .branch)) (vec-items (now (regions .exit) .base)) (vec-items (now (regions .exit) .plan)) t) ⌝ }
 {
     let sat = sitting(
         search,
@@ -107,7 +109,8 @@ pub fn sit_on<B: RuleBook, O: Order, P: RestartPolicy>(
     settings: Settings,
     regions: &mut Regions,
 ) -> Result<(Found, Counts), PlanError>
-    ensures { λ _. ⌜ Kept (now (regions .entry)) (now (regions .exit)) ⌝ }
+    ensures kept { λ _. ⌜ Kept (now (regions .entry)) (now (regions .exit)) ⌝ }
+    ensures comes { λ r. ⌜ made r (λ f. Comes (B·RuleBook .meaning (now (book .entry))) (now (lists .entry)) «search» (vec-items (now (regions .entry) .branch)) (vec-items (now (regions .entry) .base)) (vec-items (now (regions .exit) .plan)) f) ⌝ }
 {
     for _sitting in 0..settings.sittings {
         match sit(
@@ -130,6 +133,7 @@ pub fn sit_on<B: RuleBook, O: Order, P: RestartPolicy>(
 // The answer that the sittings came to, with the plan and the base that they left.
 fn answer(found: Found, counts: Counts, regions: Regions) -> Answer
     ensures verdict { λ r. ⌜ Shaped (vec-len (regions .plan)) (r .verdict) ⌝ }
+    ensures told { λ r. ⌜ told-by (r .verdict) ≡ reached (vec-items (regions .plan)) found ⌝ }
     ensures counts { λ r. ⌜ r .counts ≡ counts ⌝ }
     ensures base { λ r. ⌜ vec-len (r .base) ≡ vec-len (regions .base) ⌝ }
 {
