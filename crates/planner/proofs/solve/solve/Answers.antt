@@ -26,8 +26,7 @@ returns g c =
     let long : length (vec-items plan) ≡ length lists = sym (plan .ok .0) ∙ groups ∙ sym (ap length own) in
     let book = c .book-book .ensures .stands ∙ book-same bs job (store .loaded) (c .as-slice .result .now) (c .as-slice-2 .result .now) (st .2) (c .as-slice .ensures .value ∙ st .4) (c .as-slice-2 .ensures .value ∙ st .5) in
     let verdict : reached (take (length lists) (vec-items plan)) (c .in-Continue-found .found) ≡ told-by (c .answer .result .verdict) =
-      ap (λ (xs : List ℕ). reached xs (c .in-Continue-found .found)) (take-all (length lists) (vec-items plan) (omega arith)) ∙ sym (c .answer .ensures .told) in
-    (
+    ap (λ (xs : List ℕ). reached xs (c .in-Continue-found .found)) (take-all (length lists) (vec-items plan) (omega arith)) ∙ sym (c .answer .ensures .told) in (
       st .0,
       st .1,
       subst (λ (n : ℕ). Shaped n (c .answer .result .verdict)) groups (c .answer .ensures .verdict),
