@@ -67,3 +67,40 @@ pub fn sit_twice<B: RuleBook, O: Order, P: RestartPolicy>(
         Sat::None(done) => Ok(Sat::None(done)),
     }
 }
+
+// A sitting, and no second one beside it.
+pub fn sit_once<B: RuleBook, O: Order, P: RestartPolicy>(
+    search: OpenSearch,
+    lists: &[u64],
+    book: &B,
+    order: &mut O,
+    policy: &mut P,
+    allowance: u32,
+    domains: &mut [u64],
+    branch: &mut [u32],
+    marks: &mut [u32],
+    ends: &mut [RuleEnd],
+    settled: &mut [Assignment],
+    plan: &mut [u8],
+    base: &mut [u32],
+) -> (
+    Result<Sat, (Refusal, OpenSearch)>,
+    Option<Result<Sat, (Refusal, OpenSearch)>>,
+) {
+    let only = sitting(
+        search,
+        lists,
+        book,
+        order,
+        policy,
+        allowance,
+        domains,
+        branch,
+        marks,
+        ends,
+        settled,
+        plan,
+        base,
+    );
+    (only, None)
+}
