@@ -1,3 +1,5 @@
+// Last conflict: the groups of the last closings first, over any order.
+// It holds a small set of groups and one candidate, both kept over restarts.
 ghost use mathlib.Core.Path.{_≡_};
 ghost use mathlib.Core.List.{List};
 ghost use Prim.Native.Nat.{ℕ, _+_, _≤_, min};

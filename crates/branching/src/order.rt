@@ -1,3 +1,4 @@
+// Orders by what they answer and hold, and fewest first.
 ghost use mathlib.Core.Path.{_≡_};
 ghost use mathlib.Core.List.{List};
 ghost use Prim.Native.Nat.{ℕ, _<_, _≤_};

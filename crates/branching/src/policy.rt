@@ -1,3 +1,4 @@
+// Restart policies by what they answer and hold: geometric and steady.
 ghost use mathlib.Core.Path.{_≡_};
 ghost use Prim.Native.Nat.{ℕ, _+_, _/_, _<_, _≤_};
 ghost use Rattle.branching.specs.Policy.{PolicyMeaning, LawfulPolicy, geometric, steady, clamped};
