@@ -25,7 +25,7 @@ impl Draw {
     }
 
     // A number below n.
-    fn below(&mut self, n: u16) -> u16
+    pub fn below(&mut self, n: u16) -> u16
         requires { ⌜ 1 ≤ n ⌝ }
         ensures { λ r. ⌜ r < n ⌝ }
     {

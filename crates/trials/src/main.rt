@@ -7,9 +7,12 @@ mod drawn;
 mod exhaustive;
 mod highest;
 mod job;
+mod room;
+mod script;
 mod tally;
 
 use accounts::show_accounts;
+use drawn::Calls;
 use drawn::try_jobs;
 use std::io;
 use tally::TallyDisplay;
@@ -36,6 +39,18 @@ fn main(rt: LibcRuntime) -> io::Result<()> {
     println!(
         rt,
         "highest group first, cutoffs 1 and 3 in turn, sittings of 2 moves: {highest}"
+    )?;
+    let scripts = tallies.scripts;
+    println!(rt, "drawn scripts of calls, a base of 60 words: {scripts}")?;
+    let Calls {
+        sittings,
+        restarts,
+        refused,
+        wrong,
+    } = tallies.calls;
+    println!(
+        rt,
+        "in the scripts: {sittings} sittings, {restarts} restarts, {refused} refused calls, {wrong} past a bound or not refused"
     )?;
     let disagreements = tallies.disagreements();
     if disagreements == 0 {

@@ -1,5 +1,6 @@
 // How often each verdict came, and how often it was not the one that trying every choice gives.
 use crate::job::Job;
+use crate::script::Ended;
 use planner::answer::Answer;
 use planner::answer::Verdict;
 use planner::error::PlanError;
@@ -38,6 +39,18 @@ pub fn compare(job: &Job, solvable: bool, answer: Result<Answer, PlanError>) -> 
             _ => Outcome::Disagrees,
         },
         Err(_) => Outcome::Disagrees,
+    }
+}
+
+// What the end of a script is worth, with the plan in front of the region that was lent for one.
+pub fn judge(job: &Job, solvable: bool, ended: Ended, plan: &[u8]) -> Outcome {
+    let groups = job.lists.len();
+    match ended {
+        Ended::Plan if solvable && groups <= plan.len() && job.is_plan(&plan[0..groups]) =>
+            Outcome::Plan,
+        Ended::None if !solvable => Outcome::None,
+        Ended::Open => Outcome::Open,
+        _ => Outcome::Disagrees,
     }
 }
 
