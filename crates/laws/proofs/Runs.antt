@@ -11,7 +11,8 @@ use Rattle.std.specs.shelf.Lists.{All}
 use Rattle.std.specs.declared.option.Option.the-variants.{Some, None}
 use Rattle.std.proofs.shelf.Elements.{all-weaker}
 use Rattle.rules.specs.Meanings.{Meaning, Lawful}
-use Rattle.model.specs.Choices.{Plan, shut}
+use Rattle.rules.specs.Plans.{Plan}
+use Rattle.model.specs.Choices.{shut}
 use Rattle.model.specs.Moves.{State, start, nogoods, restarting, Move, close as may-close, restart as may-restart, decide as may-decide, called, Reach, here, more}
 use Rattle.model.specs.Words.{branch-of, recorded}
 use Rattle.model.specs.Decisions.{Branch, Nogood}

@@ -24,7 +24,8 @@ use Rattle.model.specs.Moves.{State, nogoods}
 use Rattle.laws.specs.Orders.{asked, Order, Lawful-order, Policy, Lawful-policy}
 use Rattle.laws.specs.Sittings.{Search, Verdict, none, plan, unsettled, Leaves, Due, Turn, close, restart, decide, Sits, ends-none, ends-plan, spent, moves-on, after-close, after-restart, after-decide}
 use Rattle.laws.proofs.Masks.{has-Has, Has-has}
-use Rattle.laws.proofs.Filter.{find, find-some, find-none, has-none, remaining, remaining-leaves}
+use Rattle.model.proofs.Largest.{find, find-some, find-none}
+use Rattle.laws.proofs.Filter.{has-none, remaining, remaining-leaves}
 use Rattle.laws.proofs.Once.{going}
 
 abbrev pub or-64 : Option ℕ → ℕ

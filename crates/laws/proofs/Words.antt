@@ -13,7 +13,8 @@ use Rattle.std.specs.declared.option.Option.the-variants.{Some, None}
 use Rattle.std.proofs.shelf.Elements.{all-weaker}
 use Rattle.std.proofs.shelf.Tests.{and-parts, and-from, and-right, ltb-true, lt-ltb, eqb-true, eq-eqb, eqb-false, ne-eqb, not-from-false, false≢true}
 use Rattle.rules.specs.Channels.{has}
-use Rattle.model.specs.Masks.{grp, chan, Listed}
+use Rattle.rules.specs.Plans.{Listed}
+use Rattle.model.specs.Masks.{grp, chan}
 use Rattle.model.specs.Lists.{all}
 use Rattle.model.specs.Decisions.{Decision, taken, refused, word, Free, Assignment, Branch, Apart, Nogood}
 use Rattle.model.specs.Words.{recorded}

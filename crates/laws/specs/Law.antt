@@ -6,7 +6,8 @@ use mathlib.Core.List.{List, [], _∷_, _++_}
 use lib.ListN.{length}
 use Rattle.std.specs.shelf.Lists.{All}
 use Rattle.rules.specs.Meanings.{Meaning}
-use Rattle.model.specs.Choices.{shut, Complete, Breaks, Plan, combinations}
+use Rattle.rules.specs.Plans.{Complete, Breaks, Plan}
+use Rattle.model.specs.Choices.{shut, combinations}
 use Rattle.model.specs.Moves.{State, nogoods}
 use Rattle.laws.specs.Sittings.{Verdict, none, plan, unsettled}
 use Rattle.laws.specs.Runs.{Run, history}

@@ -11,7 +11,8 @@ use lib.ListN.{length, getD, set, replicate, length-replicate, length-set, lengt
 use lib.Seq.{getD-set-same, getD-set-other}
 use Rattle.std.specs.shelf.Lists.{All}
 use Rattle.std.proofs.shelf.Tests.{cases-eq, and-parts, and-from, eqb-true, eq-eqb, lt-ltb, le-ltb, false≢true}
-use Rattle.model.specs.Masks.{grp, chan, Listed}
+use Rattle.rules.specs.Plans.{Listed}
+use Rattle.model.specs.Masks.{grp, chan}
 use Rattle.model.specs.Decisions.{Decision, taken, refused, takens, Free, Assignment, Branch}
 use Rattle.model.specs.Choices.{holds, contains}
 use Rattle.model.specs.Remains.{Family, Only, Obeys}

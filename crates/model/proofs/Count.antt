@@ -9,7 +9,7 @@ use lib.ListN.{length, getD, length-append, length-map}
 use native.Mathlib.Nat.{not-suc-le-zero}
 use Rattle.std.proofs.shelf.Tests.{both-ways, cases-eq, false≢true, true≢false}
 use Rattle.rules.specs.Channels.{has}
-use Rattle.model.specs.Masks.{Listed}
+use Rattle.rules.specs.Plans.{Listed}
 use Rattle.model.specs.Choices.{below, channels, fronts, choices, combinations}
 
 -- How many elements pass the test.

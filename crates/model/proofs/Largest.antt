@@ -13,7 +13,8 @@ use Rattle.std.specs.declared.option.Option.{Option}
 use Rattle.std.specs.declared.option.Option.the-variants.{Some, None}
 use Rattle.std.proofs.shelf.Tests.{and-parts, and-from, and-cases, and-left, or-cases, or-parts, or-from, or-left, or-right, ltb-true, lt-ltb, eqb-true, eq-eqb, eqb-false, ne-eqb, not-from-false, not-from-true, false≢true, both-ways, cases-bool, cases-eq, cases-lt}
 use Rattle.rules.specs.Channels.{has}
-use Rattle.model.specs.Masks.{grp, chan, Listed}
+use Rattle.rules.specs.Plans.{Listed}
+use Rattle.model.specs.Masks.{grp, chan}
 use Rattle.model.specs.Lists.{all, any}
 use Rattle.rules.specs.Meanings.{Meaning, Lawful}
 use Rattle.rules.proofs.Bindings.{binding}

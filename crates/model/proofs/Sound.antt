@@ -11,11 +11,13 @@ use Rattle.std.specs.declared.option.Option.{Option}
 use Rattle.std.specs.declared.option.Option.the-variants.{Some, None}
 use Rattle.std.specs.shelf.Lists.{All}
 use Rattle.std.proofs.shelf.Tests.{both-ways, cases-bool, cases-eq, and-parts, and-from, and-right, ltb-true, eqb-true, lt-ltb, eq-eqb, not-true, not-false, false≢true}
-use Rattle.model.specs.Masks.{grp, chan, Listed}
+use Rattle.rules.specs.Plans.{Listed}
+use Rattle.model.specs.Masks.{grp, chan}
 use Rattle.rules.specs.Meanings.{Meaning, Lawful}
 use Rattle.rules.proofs.Bindings.{binding}
 use Rattle.model.specs.Decisions.{Decision, taken, refused, takens, reduced, closed, Assignment, Nogood}
-use Rattle.model.specs.Choices.{holds, contains, shut, Complete, Breaks, Plan}
+use Rattle.rules.specs.Plans.{Complete, Breaks, Plan}
+use Rattle.model.specs.Choices.{holds, contains, shut}
 use Rattle.model.specs.Remains.{Family, Only, Obeys, Heeds, Meets, Dead, Single}
 use Rattle.model.specs.Moves.{State, start, nogoods, closing, Left, Ended-none, Move, close, restart, decide, called, Reach, here, more}
 use Rattle.model.proofs.Tests.{refuted, any-left, any-right, any-cases, any-one, one-any, all-left, all-right, all-one, all-both, All-all, none-left, none-right, seek, of-all}

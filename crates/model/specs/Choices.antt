@@ -7,7 +7,8 @@ use lib.Dec.{eqb}
 use lib.ListN.{length, getD}
 use Rattle.std.specs.declared.option.Option.the-variants.{Some}
 use Rattle.rules.specs.Channels.{has}
-use Rattle.model.specs.Masks.{grp, chan, Listed}
+use Rattle.rules.specs.Plans.{Listed}
+use Rattle.model.specs.Masks.{grp, chan}
 use Rattle.model.specs.Lists.{all, any}
 use Rattle.rules.specs.Meanings.{Meaning}
 
@@ -22,19 +23,6 @@ contains x nogood = all (holds x) nogood
 -- It has all assignments of some nogood.
 abbrev pub shut : List (List ℕ) → List ℕ → Bool
 shut nogoods x = any (contains x) nogoods
-
--- One listed channel for every group.
-pub record Complete (lists x : List ℕ) : Type 0 where
-  pub size : length x ≡ length lists
-  pub listed : (g : ℕ) → g < length lists → Listed lists g (getD x g 64)
-
--- Rule i gives the choice's channels at its two groups, in their order, no permission.
-abbrev pub Breaks : Meaning → List ℕ → Type 0
-Breaks book x = (i g h : ℕ) × (book .ends i ≡ Some (g, h)) × (book .permits i (getD x g 64) (getD x h 64) ≡ false)
-
-pub record Plan (lists : List ℕ) (book : Meaning) (x : List ℕ) : Type 0 where
-  pub complete : Complete lists x
-  pub kept : Breaks book x → ⊥
 
 -- The channels below k that a list has, and all of them.
 abbrev pub below : ℕ → ℕ → List ℕ

@@ -3,7 +3,8 @@
 use Prim.Native.Nat.{ℕ}
 use mathlib.Core.Logic.{_≢_}
 use mathlib.Core.List.{List, [], _∷_, _++_}
-use Rattle.model.specs.Masks.{grp, chan, Listed}
+use Rattle.rules.specs.Plans.{Listed}
+use Rattle.model.specs.Masks.{grp, chan}
 use Rattle.std.specs.shelf.Lists.{All}
 
 -- An assignment, as its word, taken or refused.

@@ -7,7 +7,8 @@ use mathlib.Core.List.{List}
 use lib.ListN.{length, getD}
 use Rattle.std.specs.declared.option.Option.the-variants.{Some}
 use Rattle.rules.specs.Channels.{has}
-use Rattle.model.specs.Masks.{grp, chan, Listed}
+use Rattle.rules.specs.Plans.{Listed}
+use Rattle.model.specs.Masks.{grp, chan}
 use Rattle.std.specs.shelf.Lists.{All}
 use Rattle.rules.specs.Meanings.{Meaning}
 use Rattle.model.specs.Decisions.{Decision, taken, refused}

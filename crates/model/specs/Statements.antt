@@ -8,7 +8,8 @@ use Rattle.std.specs.shelf.Lists.{All}
 use Rattle.rules.specs.Meanings.{Meaning, Lawful}
 use Rattle.model.specs.Decisions.{Decision, taken, refused, reduced, Branch, Nogood}
 use Rattle.model.specs.Words.{branch-of, recorded, base-of}
-use Rattle.model.specs.Choices.{shut, Complete, Breaks, Plan, combinations}
+use Rattle.rules.specs.Plans.{Complete, Breaks, Plan}
+use Rattle.model.specs.Choices.{shut, combinations}
 use Rattle.model.specs.Remains.{Family, Meets, Remains, Single}
 use Rattle.model.specs.Moves.{State, start, nogoods, Left, Reach, Ended-none}
 

@@ -11,7 +11,8 @@ use Rattle.std.specs.shelf.Lists.{All}
 use Rattle.std.proofs.shelf.Tests.{both-ways, cases-eq, eq-eqb}
 use Rattle.rules.specs.Meanings.{Meaning}
 use Rattle.rules.specs.Channels.{has}
-use Rattle.model.specs.Masks.{grp, chan, Listed}
+use Rattle.rules.specs.Plans.{Listed}
+use Rattle.model.specs.Masks.{grp, chan}
 use Rattle.model.specs.Decisions.{Decision, taken}
 use Rattle.model.specs.Words.{decision, branch-of}
 use Rattle.model.specs.Remains.{Family, family, Only, Obeys, Meets, Remains, Alive}

@@ -12,7 +12,7 @@ use Rattle.std.proofs.shelf.Tests.{both-ways, cases-lt, true≢false, false≢t
 use Rattle.std.proofs.shelf.Lists.{getD-past}
 use Rattle.rules.specs.Meanings.{Meaning, Lawful}
 use Rattle.rules.specs.Channels.{has}
-use Rattle.model.specs.Masks.{Listed}
+use Rattle.rules.specs.Plans.{Listed}
 use Rattle.model.specs.Decisions.{Decision}
 use Rattle.model.specs.Words.{decision, branch-of}
 use Rattle.model.specs.Remains.{Family, family, Obeys, Meets, Remains, Alive}
