@@ -1,4 +1,6 @@
 // The program: a job on standard input, its account on standard output.
+#![tactic(auto)]
+
 use planner::error::PlanError;
 use planner::solve::{LONGEST_JOB, plan};
 use std::io;

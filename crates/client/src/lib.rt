@@ -1,5 +1,7 @@
 // A small user of the calls: it opens a search, sits on it and sits on it again.
 // The uses of a search that the compiler has to turn away are tried on a copy of this file.
+#![tactic(auto)]
+
 use branching::{Order, RestartPolicy};
 use propagation::records::{Assignment, RuleEnd};
 use rules::book::RuleBook;

@@ -1,4 +1,6 @@
 // The theorems on runs of calls. Each function's contract is a theorem; the functions compute nothing.
+#![tactic(auto)]
+
 ghost use Rattle.laws.specs.Orders.{IsLawfulOrder, behaviour, IsLawfulPolicy, cutoffs};
 ghost use Rattle.laws.specs.Statements.{SitsOnce, RemainsExists, SitsExists, SitsReaches, OpenSpends, RunsLawful, SittingContinues, RestartContinues, RefusedContinues, AcceptedStands, AcceptedContinues, BranchTested, BaseTested, FirstRefusal, LowestEmpty, Undisturbed};
 ghost use Rattle.laws.specs.Jobs.{Jobs, SixCalls};

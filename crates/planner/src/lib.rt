@@ -1,4 +1,6 @@
 // One call from the bytes of a job to an answer, and the account of it as text.
+#![tactic(auto)]
+
 pub mod answer;
 pub mod error;
 mod regions;

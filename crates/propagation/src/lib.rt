@@ -1,4 +1,6 @@
 // What remains of the lists after decisions, rules and recorded nogoods.
+#![tactic(auto)]
+
 pub mod across;
 pub mod bits;
 pub mod decision;

@@ -8,7 +8,7 @@ use super::refusal::Refusal;
 
 // Whether the numbers of groups, rules and plan bytes fit each other and their limits.
 fn counts_match<B: RuleBook>(lists: &[u64], book: &B, plan: &[u8]) -> bool
-    ensures { result ≡ counts_fit lists.now (meaning book.now) plan.now }
+    ensures { result ≡ counts_fit lists.now (B.meaning book.now) plan.now }
 {
     let n = lists.len();
     n >= 1 && n <= 200 && book.groups() as usize == n && book.count() <= 4096 && plan.len() == n
@@ -38,15 +38,15 @@ fn first_unlisted(lists: &[u64], plan: &[u8]) -> Option<usize>
 fn permits_pair<B: RuleBook>(book: &B, plan: &[u8], rule: u32, g: u16, h: u16) -> bool
     requires first { g < length plan.now }
     requires second { h < length plan.now }
-    ensures { result ≡ (meaning book.now).permits rule (slice_index plan.now g) (slice_index plan.now h) }
+    ensures { result ≡ (B.meaning book.now).permits rule (slice_index plan.now g) (slice_index plan.now h) }
 {
     book.permits(rule, plan[g as usize], plan[h as usize])
 }
 
 // Whether a rule binds and does not permit the channels of its two groups.
 fn breaks<B: RuleBook>(book: &B, plan: &[u8], rule: u32) -> bool
-    requires { (meaning book.now).groups ≡ length plan.now }
-    ensures { result ≡ brokenAt (meaning book.now) plan.now rule }
+    requires { (B.meaning book.now).groups ≡ length plan.now }
+    ensures { result ≡ brokenAt (B.meaning book.now) plan.now rule }
 {
     match book.ends(rule) {
         Some((g, h)) => !permits_pair(book, plan, rule, g, h),
@@ -56,8 +56,8 @@ fn breaks<B: RuleBook>(book: &B, plan: &[u8], rule: u32) -> bool
 
 // The lowest rule that the plan breaks.
 fn first_broken<B: RuleBook>(book: &B, plan: &[u8]) -> Option<u32>
-    requires { (meaning book.now).groups ≡ length plan.now }
-    ensures { result ≡ lowest (brokenAt (meaning book.now) plan.now) (meaning book.now).count }
+    requires { (B.meaning book.now).groups ≡ length plan.now }
+    ensures { result ≡ lowest (brokenAt (B.meaning book.now) plan.now) (B.meaning book.now).count }
 {
     for rule in 0..book.count() {
         if breaks(book, plan, rule) {
@@ -69,7 +69,7 @@ fn first_broken<B: RuleBook>(book: &B, plan: &[u8]) -> Option<u32>
 
 // The first refusal: the counts, the lowest group whose channel is not listed, the lowest rule broken.
 fn first_refusal<B: RuleBook>(lists: &[u64], book: &B, plan: &[u8]) -> Option<Refusal>
-    ensures { result ≡ check_refusal lists.now (meaning book.now) plan.now }
+    ensures { result ≡ check_refusal lists.now (B.meaning book.now) plan.now }
 {
     if !counts_match(lists, book, plan) {
         return Some(Refusal::Counts);
@@ -85,8 +85,8 @@ fn first_refusal<B: RuleBook>(lists: &[u64], book: &B, plan: &[u8]) -> Option<Re
 
 // Whether the bytes, one a group, are a plan of the lists and the book, or the first refusal.
 pub fn check<B: RuleBook>(lists: &[u64], book: &B, plan: &[u8]) -> Result<(), Refusal>
-    ensures answer { Checked lists.now (meaning book.now) plan.now result }
-    ensures plan { OnOk result (Plan lists.now (meaning book.now) plan.now) }
+    ensures answer { Checked lists.now (B.meaning book.now) plan.now result }
+    ensures plan { OnOk result (Plan lists.now (B.meaning book.now) plan.now) }
 {
     match first_refusal(lists, book, plan) {
         Some(r) => Err(r),

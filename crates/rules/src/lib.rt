@@ -1,4 +1,6 @@
 // Rule books: what a book stands for, three makes of them, and the check of a plan.
+#![tactic(auto)]
+
 pub mod book;
 pub mod check;
 pub mod gap;

@@ -1,9 +1,7 @@
 // Why a call is refused: one enum for all calls, each case with its number and its place.
 ghost use Rattle.std.specs.Prelude.{◌≡◌, ◌&&◌, ◌==◌};
 ghost use Rattle.rules.specs.Refusals.{numbered, placed};
-ghost use Rattle.std.specs.Cmp.Rules.{comparing};
-ghost use Rattle.std.proofs.Common.{rules};
-ghost use Rattle.std.specs.Cmp as Keys;
+ghost use Rattle.std.specs.Cmp.{and_equiv, nat_eq_equiv, on_equiv, partial_equiv_from_equiv};
 
 #[derive(Clone, Copy)]
 pub enum Refusal {
@@ -102,7 +100,7 @@ impl Refusal {
 impl PartialEq for Refusal {
     ghost eq = { λ a b. (numbered a == numbered b && placed a == placed b) };
 
-    ghost laws = { Keys.partial_equiv_from_equiv (Prim.search (comparing, rules)) };
+    ghost laws = { partial_equiv_from_equiv (and_equiv (on_equiv numbered nat_eq_equiv) (on_equiv placed nat_eq_equiv)) };
 
     fn eq(&self, other: &Refusal) -> bool {
         self.number() == other.number() && self.place() == other.place()
@@ -110,5 +108,5 @@ impl PartialEq for Refusal {
 }
 
 impl Eq for Refusal {
-    ghost laws = { Prim.search (comparing, rules) };
+    ghost laws = { and_equiv (on_equiv numbered nat_eq_equiv) (on_equiv placed nat_eq_equiv) };
 }

@@ -1,4 +1,6 @@
 // A search that is opened, sat on and settled, with its moves on lent regions.
+#![tactic(auto)]
+
 pub mod calls;
 pub mod held;
 mod moves;

@@ -1,5 +1,7 @@
 // Trials of the planner: accounts that are known by hand, and drawn jobs held against a solver that tries
 // every choice.
+#![tactic(auto)]
+
 mod accounts;
 mod alternating;
 mod draw;
