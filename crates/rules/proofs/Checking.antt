@@ -5,7 +5,7 @@ use Rattle.std.proofs.lemmas.Bool.{false≢true, and_parts, and_from, not-false,
 use Rattle.rules.specs.Channels.{has}
 use Rattle.rules.specs.Meanings.{Meaning, Lawful}
 use Rattle.rules.specs.Plans.{Listed, Complete, BreaksAt, Breaks, Plan}
-use Rattle.rules.specs.Checks.{or_else, lowest, placed_at, counts_fit, channel_in, unlisted, broken_by, broken, check_refusal, Counted, FirstUnlisted, FirstBroken, CheckMeans, CheckFindsPlans}
+use Rattle.rules.specs.Checks.{or_else, lowest, placed_at, counts_fit, channel_in, unlisted, broken_by, broken, Counted, FirstUnlisted, FirstBroken, CheckMeans, CheckFindsPlans}
 use Rattle.rules.specs.declared.refusal.Refusal.{Refusal}
 use Rattle.rules.specs.declared.refusal.Refusal.TheVariants.{Counts, NotListed, RuleBroken}
 use Rattle.rules.proofs.Firsts.{First, lowest_none, lowest_tells}
