@@ -1,8 +1,7 @@
 -- There is a largest family: what is left once channels that a condition rejects are taken away, one by one. And the conditions are closed under union.
-use Rattle.std.proofs.Common.{◌≡◌, ℕ, zero, suc, ◌+◌, ◌*◌, ◌/◌, ◌%◌, ◌^◌, ◌<◌, ◌≤◌, Bool, true, false, cond, not, ◌&&◌, ◌||◌, eqb, ltb, ◌≢◌, ◌⊎◌, List, [], ◌∷◌, length, get_or, Some, None, Option, sym, refl, ap, ◌∙◌, subst, inl, inr, not-suc-le-zero, arith}
-use mathlib.Core.Path.{fun_ext}
+use Rattle.std.proofs.Common.{◌≡◌, ℕ, zero, suc, ◌+◌, ◌*◌, ◌<◌, ◌≤◌, Bool, true, false, cond, not, ◌&&◌, ◌||◌, eqb, ltb, ◌≢◌, ◌⊎◌, List, [], ◌∷◌, length, get_or, Some, None, Option, sym, refl, subst, inl, inr, not-suc-le-zero, arith}
 use Rattle.std.specs.List.{AllByRecursion as All}
-use Rattle.std.proofs.lemmas.Bool.{and_parts, and_from, and_cases, and_left, or_cases, or_parts, or_from, or_left, or_right, ltb-true, lt-ltb, eqb-true, eq-eqb, eqb-false, ne_eqb, not_from_false, not_from_true, false≢true, both_ways, cases_Bool, cases_eq, cases_lt}
+use Rattle.std.proofs.lemmas.Bool.{and_parts, and_from, and_cases, or_cases, or_parts, or_from, or_left, or_right, ltb-true, lt-ltb, eqb-true, eq-eqb, eqb-false, ne_eqb, not_from_false, false≢true, both_ways, cases_eq}
 use Rattle.rules.specs.Channels.{has}
 use Rattle.rules.specs.Plans.{Listed}
 use Rattle.model.specs.Masks.{grp, chan}
@@ -10,7 +9,7 @@ use Rattle.model.specs.Lists.{all, any}
 use Rattle.rules.specs.Meanings.{Meaning, Lawful}
 use Rattle.rules.proofs.Bindings.{binding}
 use Rattle.model.specs.Decisions.{Decision, taken, refused}
-use Rattle.model.specs.Remains.{Family, family, Only, Gone, Obeys, Heeds, Meets, Remains}
+use Rattle.model.specs.Remains.{Family, Only, Gone, Obeys, Heeds, Meets, Remains}
 use Rattle.model.proofs.Tests.{refuted}
 
 -- Some number below n passes.
