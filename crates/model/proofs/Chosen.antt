@@ -1,7 +1,7 @@
 -- The choice of the assignments taken on a branch.
 use Rattle.std.proofs.Common.{◌≡◌, ℕ, zero, suc, ◌<◌, ◌≤◌, Bool, true, false, cond, ltb, ◌≢◌, ◌⊎◌, List, [], ◌∷◌, length, get_or, set, replicate, sym, refl, ap, ◌∙◌, inl, inr, not-suc-le-zero, arith, length-append, length-set, get_or-set_other, get_or-set_same}
 use lib.ListN.{length-replicate}
-use Rattle.std.specs.List.{AllByRecursion as All}
+use Rattle.std.specs.List.{AllByRecursion}
 use Rattle.std.proofs.lemmas.Bool.{cases_eq, and_parts, and_from, eqb-true, eq-eqb, lt-ltb, le-ltb, false≢true}
 use Rattle.rules.specs.Plans.{Listed}
 use Rattle.model.specs.Masks.{grp, chan}
@@ -53,7 +53,7 @@ set_cases x w v l h = go (cases_eq (grp v) (grp w))
     go (inl e) = inl (same_word v w e (sym at ∙ (ap (λ g. get_or (set x (grp w) (chan w)) g 64) e ∙ get_or-set_same x (grp w) (chan w) 64 l)))
     go (inr ne) = inr (eq-eqb _ _ (sym (get_or-set_other x (grp w) (grp v) (chan w) 64 ne) ∙ at))
 
-pub contains_set : (x : List ℕ) (w : ℕ) (ws : List ℕ) → All (λ v. grp v ≢ grp w) ws → contains x ws ≡ true → contains (set x (grp w) (chan w)) ws ≡ true
+pub contains_set : (x : List ℕ) (w : ℕ) (ws : List ℕ) → AllByRecursion (λ v. grp v ≢ grp w) ws → contains x ws ≡ true → contains (set x (grp w) (chan w)) ws ≡ true
 contains_set x w [] f h = refl
 contains_set x w (v ∷ ws) f h = let q = and_parts (holds x v) (contains x ws) h in and_from _ _ (set_held x w v f.0 q.0) (contains_set x w ws f.1 q.1)
 
@@ -73,7 +73,7 @@ module _ (lists : List ℕ) where
   chosen_contains (refused w ∷ ds) b = chosen_contains ds b.2
 
   -- What it holds is listed, and alone in its group in what remains.
-  pub chosen_only : (k : Family) (ds : List Decision) → Branch lists ds → All (Obeys k) ds → (v : ℕ) → holds (branch_choice ds) v ≡ true → Only k v × Assignment lists v
+  pub chosen_only : (k : Family) (ds : List Decision) → Branch lists ds → AllByRecursion (Obeys k) ds → (v : ℕ) → holds (branch_choice ds) v ≡ true → Only k v × Assignment lists v
   chosen_only k [] b o v h = absurd (none_held (branch_choice []) v (empty_at (length lists) (grp v)) h)
   chosen_only k (taken w ∷ ds) b o v h =
       elim (set_cases (branch_choice ds) w v (inside w ds b.0) h) [

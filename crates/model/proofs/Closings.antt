@@ -1,7 +1,7 @@
 -- Each closing shuts out a choice that was not shut out before, so closings stay below the number of choices.
 use Rattle.std.proofs.Common.{◌≡◌, ℕ, ◌<◌, ◌≤◌, true, ◌≢◌, List, [], ◌∷◌, ◌++◌, length, refl, subst, inl, inr, arith}
 use lib.ListN.{length-replicate}
-use Rattle.std.specs.List.{AllByRecursion as All}
+use Rattle.std.specs.List.{AllByRecursion}
 use Rattle.std.proofs.ByRecursion.{All-append, All-weaker}
 use Rattle.std.proofs.lemmas.Bool.{both_ways, cases_eq, and_parts, and_from, false≢true}
 use Rattle.model.specs.Masks.{grp, chan}
@@ -41,7 +41,7 @@ empty_contains : (lists : List ℕ) (ns : List ℕ) → Nogood lists ns → cont
 empty_contains lists [] g e = g.some refl
 empty_contains lists (w ∷ ns) g e = none_held (branch_choice lists []) w (empty_at (length lists) (grp w)) (and_parts (holds (branch_choice lists []) w) _ e).0
 
-empty_open : (lists : List ℕ) (base : List (List ℕ)) → All (Nogood lists) base → shut base (branch_choice lists []) ≡ true → ⊥
+empty_open : (lists : List ℕ) (base : List (List ℕ)) → AllByRecursion (Nogood lists) base → shut base (branch_choice lists []) ≡ true → ⊥
 empty_open lists [] g e = false≢true e
 empty_open lists (ns ∷ base) g e =
     elim (any_cases (contains (branch_choice lists [])) (ns ∷ []) base e) [
@@ -50,7 +50,7 @@ empty_open lists (ns ∷ base) g e =
     ]
 
 module _ (lists : List ℕ) where
-  all_nogoods : (s : State) → Whole lists s → All (Nogood lists) (nogoods s)
+  all_nogoods : (s : State) → Whole lists s → AllByRecursion (Nogood lists) (nogoods s)
   all_nogoods s h = All-append (Nogood lists) s.base (reduced s.branch) h.base (reduced_nogoods lists s.branch h.branch)
 
   -- The choice of a closed branch is within that of the branch, and lacks the last that was taken.
@@ -97,7 +97,7 @@ module _ (lists : List ℕ) where
 
   -- Deciding: what the new choice has remains, and all but the new assignment is alone in its group.
   module _ (k : Family) (w : ℕ) (x : List ℕ) (kept : k (grp w) (chan w) ≡ true) (held : (v : ℕ) → holds x v ≡ true → (k (grp v) (chan v) ≡ true) × (v ≢ w → Only k v)) where
-    reduced_open : (ds : List Decision) → All (Obeys k) ds → shut (reduced ds) x ≡ true → ⊥
+    reduced_open : (ds : List Decision) → AllByRecursion (Obeys k) ds → shut (reduced ds) x ≡ true → ⊥
     reduced_open [] o e = false≢true e
     reduced_open (taken v ∷ ds) o e = reduced_open ds o.1 e
     reduced_open (refused v ∷ ds) o e =
@@ -107,7 +107,7 @@ module _ (lists : List ℕ) where
         ]
 
     -- No assignment of such a nogood is w, so all are alone in their groups, and the first should be gone.
-    none_is : (All-others : List ℕ) → All (λ v. v ≢ w → Only k v) All-others → (ns : List ℕ) → All (λ u. All (λ v. v ≢ u → Only k v) All-others → Gone k u) ns → All (λ v. v ≢ w → Only k v) ns → All (Only k) ns
+    none_is : (All-others : List ℕ) → AllByRecursion (λ v. v ≢ w → Only k v) All-others → (ns : List ℕ) → AllByRecursion (λ u. AllByRecursion (λ v. v ≢ u → Only k v) All-others → Gone k u) ns → AllByRecursion (λ v. v ≢ w → Only k v) ns → AllByRecursion (Only k) ns
     none_is os f [] g h = tt
     none_is os f (u ∷ ns) g h = (h.0 (λ e. both_ways (k (grp w) (chan w)) (subst (λ u. Gone k u) e (g.0 (rw e f))) kept), none_is os f ns g.1 h.1)
 
@@ -116,16 +116,16 @@ module _ (lists : List ℕ) where
     nogood_open (u ∷ ns) n g e =
         both_ways _ (g.0 (All-weaker (Only k) (λ v. v ≢ u → Only k v) (λ v o _. o) (u ∷ ns) only)) (held u hs.0).0
       where
-        hs : All (λ v. holds x v ≡ true) (u ∷ ns)
+        hs : AllByRecursion (λ v. holds x v ≡ true) (u ∷ ns)
         hs = all-All (holds x) (u ∷ ns) e
 
-        others : All (λ v. v ≢ w → Only k v) (u ∷ ns)
+        others : AllByRecursion (λ v. v ≢ w → Only k v) (u ∷ ns)
         others = All-weaker (λ v. holds x v ≡ true) (λ v. v ≢ w → Only k v) (λ v h. (held v h).1) (u ∷ ns) hs
 
-        only : All (Only k) (u ∷ ns)
+        only : AllByRecursion (Only k) (u ∷ ns)
         only = none_is (u ∷ ns) others (u ∷ ns) g others
 
-    base_open : (base : List (List ℕ)) → All (Nogood lists) base → All (Heeds k) base → shut base x ≡ true → ⊥
+    base_open : (base : List (List ℕ)) → AllByRecursion (Nogood lists) base → AllByRecursion (Heeds k) base → shut base x ≡ true → ⊥
     base_open [] n g e = false≢true e
     base_open (ns ∷ base) n g e =
         elim (any_cases (contains x) (ns ∷ []) base e) [

@@ -1,7 +1,7 @@
 -- Every run keeps the branch well formed and the base a list of nogoods.
 use Rattle.std.proofs.Common.{◌≡◌, ℕ, true, false, ◌≢◌, List, [], ◌∷◌, ◌++◌, sym, ◌∙◌, subst}
 use mathlib.Core.List.{concat-ne-nil}
-use Rattle.std.specs.List.{AllByRecursion as All}
+use Rattle.std.specs.List.{AllByRecursion}
 use Rattle.std.proofs.ByRecursion.{All-append, All-push}
 use Rattle.std.proofs.lemmas.Bool.{both_ways}
 use Rattle.model.specs.Masks.{grp, chan}
@@ -10,17 +10,17 @@ use Rattle.model.specs.Decisions.{Decision, taken, refused, takens, reduced, clo
 use Rattle.model.specs.Remains.{Family, Obeys}
 use Rattle.model.specs.Moves.{State, start, restarting, Move, close, restart, decide, called, Reach, here, more}
 
-pub apart_push : (ws : List ℕ) (w : ℕ) → Apart ws → All (λ v. grp v ≢ grp w) ws → Apart (ws ++ w ∷ [])
+pub apart_push : (ws : List ℕ) (w : ℕ) → Apart ws → AllByRecursion (λ v. grp v ≢ grp w) ws → Apart (ws ++ w ∷ [])
 apart_push [] w a f = (tt, tt)
 apart_push (v ∷ ws) w a f = (All-push (λ u. grp v ≢ grp u) ws w a.0 f.0, apart_push ws w a.1 f.1)
 
-pub free_takens : (w : ℕ) (ds : List Decision) → Free w ds → All (λ v. grp v ≢ grp w) (takens ds)
+pub free_takens : (w : ℕ) (ds : List Decision) → Free w ds → AllByRecursion (λ v. grp v ≢ grp w) (takens ds)
 free_takens w [] f = tt
 free_takens w (taken v ∷ ds) f = All-push (λ v. grp v ≢ grp w) (takens ds) v (free_takens w ds f.1) f.0
 free_takens w (refused v ∷ ds) f = free_takens w ds f.1
 
 module _ (lists : List ℕ) where
-  pub takens_listed : (ds : List Decision) → Branch lists ds → All (Assignment lists) (takens ds)
+  pub takens_listed : (ds : List Decision) → Branch lists ds → AllByRecursion (Assignment lists) (takens ds)
   takens_listed [] b = tt
   takens_listed (taken v ∷ ds) b = All-push (Assignment lists) (takens ds) v (takens_listed ds b.2) b.0
   takens_listed (refused v ∷ ds) b = takens_listed ds b.2
@@ -35,7 +35,7 @@ module _ (lists : List ℕ) where
   nogood w ds l f b =
       record { some = concat-ne-nil w (takens ds); listed = All-push (Assignment lists) (takens ds) w (takens_listed ds b) l; apart = apart_push (takens ds) w (takens_apart ds b) (free_takens w ds f) }
 
-  pub reduced_nogoods : (ds : List Decision) → Branch lists ds → All (Nogood lists) (reduced ds)
+  pub reduced_nogoods : (ds : List Decision) → Branch lists ds → AllByRecursion (Nogood lists) (reduced ds)
   reduced_nogoods [] b = tt
   reduced_nogoods (taken v ∷ ds) b = reduced_nogoods ds b.2
   reduced_nogoods (refused v ∷ ds) b = All-push (Nogood lists) (reduced ds) (takens ds ++ v ∷ []) (reduced_nogoods ds b.2) (nogood v ds b.0 b.1 b.2)
@@ -46,7 +46,7 @@ module _ (lists : List ℕ) where
   closed_branch (refused v ∷ ds) b = closed_branch ds b.2
 
 -- A group that keeps two channels is not taken, and a channel that it keeps is not refused.
-pub free : (k : Family) (w c : ℕ) → k (grp w) (chan w) ≡ true → k (grp w) c ≡ true → c ≢ chan w → (ds : List Decision) → All (Obeys k) ds → Free w ds
+pub free : (k : Family) (w c : ℕ) → k (grp w) (chan w) ≡ true → k (grp w) c ≡ true → c ≢ chan w → (ds : List Decision) → AllByRecursion (Obeys k) ds → Free w ds
 free k w c kept other ne [] o = tt
 free k w c kept other ne (taken v ∷ ds) o =
     (λ e. ne (o.0 c (rw e other) ∙ sym (o.0 (chan w) (rw e kept))), free k w c kept other ne ds o.1)
@@ -56,7 +56,7 @@ free k w c kept other ne (refused v ∷ ds) o =
 -- What every run keeps.
 pub record Whole (lists : List ℕ) (s : State) : Type 0 where
   pub branch : Branch lists s.branch
-  pub base : All (Nogood lists) s.base
+  pub base : AllByRecursion (Nogood lists) s.base
 
 module _ (lists : List ℕ) (book : Meaning) (room : ℕ) where
   pub whole_restarting : (s : State) → Whole lists s → Whole lists (restarting s)

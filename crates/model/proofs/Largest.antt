@@ -1,8 +1,7 @@
 -- There is a largest family: what is left once channels that a condition rejects are taken away, one by one. And the conditions are closed under union.
-use Rattle.std.proofs.Common.{◌≡◌, ℕ, zero, suc, ◌+◌, ◌*◌, ◌/◌, ◌%◌, ◌^◌, ◌<◌, ◌≤◌, Bool, true, false, cond, not, ◌&&◌, ◌||◌, eqb, ltb, ◌≢◌, ◌⊎◌, List, [], ◌∷◌, length, get_or, Some, None, Option, sym, refl, ap, ◌∙◌, subst, inl, inr, not-suc-le-zero, arith}
-use mathlib.Core.Path.{fun_ext}
-use Rattle.std.specs.List.{AllByRecursion as All}
-use Rattle.std.proofs.lemmas.Bool.{and_parts, and_from, and_cases, and_left, or_cases, or_parts, or_from, or_left, or_right, ltb-true, lt-ltb, eqb-true, eq-eqb, eqb-false, ne_eqb, not_from_false, not_from_true, false≢true, both_ways, cases_Bool, cases_eq, cases_lt}
+use Rattle.std.proofs.Common.{◌≡◌, ℕ, zero, suc, ◌+◌, ◌*◌, ◌<◌, ◌≤◌, Bool, true, false, cond, not, ◌&&◌, ◌||◌, eqb, ltb, ◌≢◌, ◌⊎◌, List, [], ◌∷◌, length, get_or, Some, None, Option, sym, refl, subst, inl, inr, not-suc-le-zero, arith}
+use Rattle.std.specs.List.{AllByRecursion}
+use Rattle.std.proofs.lemmas.Bool.{and_parts, and_from, and_cases, or_cases, or_parts, or_from, or_left, or_right, ltb-true, lt-ltb, eqb-true, eq-eqb, eqb-false, ne_eqb, not_from_false, false≢true, both_ways, cases_eq}
 use Rattle.rules.specs.Channels.{has}
 use Rattle.rules.specs.Plans.{Listed}
 use Rattle.model.specs.Masks.{grp, chan}
@@ -10,7 +9,7 @@ use Rattle.model.specs.Lists.{all, any}
 use Rattle.rules.specs.Meanings.{Meaning, Lawful}
 use Rattle.rules.proofs.Bindings.{binding}
 use Rattle.model.specs.Decisions.{Decision, taken, refused}
-use Rattle.model.specs.Remains.{Family, family, Only, Gone, Obeys, Heeds, Meets, Remains}
+use Rattle.model.specs.Remains.{Family, Only, Gone, Obeys, Heeds, Meets, Remains}
 use Rattle.model.proofs.Tests.{refuted}
 
 -- Some number below n passes.
@@ -70,7 +69,7 @@ module _ (book : Meaning) (base : List (List ℕ)) (branch : List Decision) wher
 
   -- A family that meets the conditions, within k, has nothing that is rejected.
   module _ (lists : List ℕ) (lawful : Lawful book) (k j : Family) (within : (g c : ℕ) → j g c ≡ true → k g c ≡ true) (m : Meets lists book base branch j) (g c : ℕ) (h : j g c ≡ true) where
-    no_clash : (ds : List Decision) → All (Obeys j) ds → any (clashes g c) ds ≡ true → ⊥
+    no_clash : (ds : List Decision) → AllByRecursion (Obeys j) ds → any (clashes g c) ds ≡ true → ⊥
     no_clash [] o e = false≢true e
     no_clash (taken w ∷ ds) o e = elim (or_cases (clashes g c (taken w)) (any (clashes g c) ds) e) [
       | inl t ↦ (let p = and_parts (eqb (grp w) g) (not (eqb c (chan w))) t in
@@ -114,13 +113,13 @@ module _ (book : Meaning) (base : List (List ℕ)) (branch : List Decision) wher
           (and_from (k (grp v) a) (not (eqb a (chan v))) (within (grp v) a q) (not_from_false (eqb a (chan v)) (ne_eqb a (chan v) e)))))
     ]
 
-    others : (w : ℕ) (vs : List ℕ) → all (λ v. eqb v w || settled k v) vs ≡ true → All (λ v. v ≢ w → Only j v) vs
+    others : (w : ℕ) (vs : List ℕ) → all (λ v. eqb v w || settled k v) vs ≡ true → AllByRecursion (λ v. v ≢ w → Only j v) vs
     others w [] e = tt
     others w (v ∷ vs) e =
         let p = and_parts (eqb v w || settled k v) (all (λ v. eqb v w || settled k v) vs) e in
         ((λ ne. elim (or_cases (eqb v w) (settled k v) p.0) [ inl t ↦ absurd (ne (eqb-true v w t)) | inr t ↦ only_within v t ]), others w vs p.1)
 
-    not_barred : (nogood ws : List ℕ) → All (λ w. All (λ v. v ≢ w → Only j v) nogood → Gone j w) ws → any (bars k g c nogood) ws ≡ true → ⊥
+    not_barred : (nogood ws : List ℕ) → AllByRecursion (λ w. AllByRecursion (λ v. v ≢ w → Only j v) nogood → Gone j w) ws → any (bars k g c nogood) ws ≡ true → ⊥
     not_barred nogood [] o e = false≢true e
     not_barred nogood (w ∷ ws) o e = elim (or_cases (bars k g c nogood w) (any (bars k g c nogood) ws) e) [
       | inl t ↦ (let p = and_parts (eqb (grp w) g && eqb (chan w) c) (all (λ v. eqb v w || settled k v) nogood) t in
@@ -129,7 +128,7 @@ module _ (book : Meaning) (base : List (List ℕ)) (branch : List Decision) wher
       | inr t ↦ not_barred nogood ws o.1 t
     ]
 
-    none_barred : (ns : List (List ℕ)) → All (Heeds j) ns → any (λ nogood. any (bars k g c nogood) nogood) ns ≡ true → ⊥
+    none_barred : (ns : List (List ℕ)) → AllByRecursion (Heeds j) ns → any (λ nogood. any (bars k g c nogood) nogood) ns ≡ true → ⊥
     none_barred [] o e = false≢true e
     none_barred (n ∷ ns) o e = elim (or_cases (any (bars k g c n) n) (any (λ nogood. any (bars k g c nogood) nogood) ns) e) [
       | inl t ↦ not_barred n n o.0 t
@@ -154,7 +153,7 @@ module _ (book : Meaning) (base : List (List ℕ)) (branch : List Decision) wher
         let q = or_parts (among (λ i. lonely k (book.permits i) g c (book.ends i)) book.count) (any (λ nogood. any (bars k g c nogood) nogood) base) p.1 in
         (p.0, q.0, q.1)
 
-    obeys : (ds : List Decision) → ((g c : ℕ) → k g c ≡ true → any (clashes g c) ds ≡ false) → All (Obeys k) ds
+    obeys : (ds : List Decision) → ((g c : ℕ) → k g c ≡ true → any (clashes g c) ds ≡ false) → AllByRecursion (Obeys k) ds
     obeys [] f = tt
     obeys (taken w ∷ ds) f = (
       (λ c h. let p = (or_parts (clashes (grp w) c (taken w)) (any (clashes (grp w) c) ds) (f (grp w) c h)).0 in
@@ -198,14 +197,14 @@ module _ (book : Meaning) (base : List (List ℕ)) (branch : List Decision) wher
         let p = and_parts (k (grp v) r.0) (not (eqb r.0 (chan v))) r.2 in
         eqb-false r.0 (chan v) (not_is _ p.1) (o r.0 p.0)))
 
-    others_settled_lem : (w : ℕ) (vs : List ℕ) → All (λ v. v ≢ w → Only k v) vs → all (λ v. eqb v w || settled k v) vs ≡ true
+    others_settled_lem : (w : ℕ) (vs : List ℕ) → AllByRecursion (λ v. v ≢ w → Only k v) vs → all (λ v. eqb v w || settled k v) vs ≡ true
     others_settled_lem w [] o = refl
     others_settled_lem w (v ∷ vs) o =
         and_from (eqb v w || settled k v) (all (λ v. eqb v w || settled k v) vs)
         (elim (cases_eq v w) [ inl e ↦ or_left (eqb v w) (settled k v) (eq-eqb v w e) | inr e ↦ or_right (eqb v w) (settled k v) (only_settled v (o.0 e)) ])
         (others_settled_lem w vs o.1)
 
-    heeds : (nogood ws : List ℕ) → ((g c : ℕ) → k g c ≡ true → any (bars k g c nogood) ws ≡ false) → All (λ w. All (λ v. v ≢ w → Only k v) nogood → Gone k w) ws
+    heeds : (nogood ws : List ℕ) → ((g c : ℕ) → k g c ≡ true → any (bars k g c nogood) ws ≡ false) → AllByRecursion (λ w. AllByRecursion (λ v. v ≢ w → Only k v) nogood → Gone k w) ws
     heeds nogood [] f = tt
     heeds nogood (w ∷ ws) f = (
       (λ o. refuted (k (grp w) (chan w)) (λ h.
@@ -215,7 +214,7 @@ module _ (book : Meaning) (base : List (List ℕ)) (branch : List Decision) wher
       heeds nogood ws (λ g c h. (or_parts (bars k g c nogood w) (any (bars k g c nogood) ws) (f g c h)).1),
     )
 
-    heeds_all : (ns : List (List ℕ)) → ((g c : ℕ) → k g c ≡ true → any (λ nogood. any (bars k g c nogood) nogood) ns ≡ false) → All (Heeds k) ns
+    heeds_all : (ns : List (List ℕ)) → ((g c : ℕ) → k g c ≡ true → any (λ nogood. any (bars k g c nogood) nogood) ns ≡ false) → AllByRecursion (Heeds k) ns
     heeds_all [] f = tt
     heeds_all (n ∷ ns) f = (
       heeds n n (λ g c h. (or_parts (any (bars k g c n) n) (any (λ nogood. any (bars k g c nogood) nogood) ns) (f g c h)).0),
@@ -421,20 +420,20 @@ module _ (lists : List ℕ) (book : Meaning) (base : List (List ℕ)) (branch : 
   united_heeds : (nogood : List ℕ) → Heeds k nogood → Heeds l nogood → Heeds united nogood
   united_heeds nogood a b = go nogood a b
     where
-      of_first : (w : ℕ) (vs : List ℕ) → All (λ v. v ≢ w → Only united v) vs → All (λ v. v ≢ w → Only k v) vs
+      of_first : (w : ℕ) (vs : List ℕ) → AllByRecursion (λ v. v ≢ w → Only united v) vs → AllByRecursion (λ v. v ≢ w → Only k v) vs
       of_first w [] o = tt
       of_first w (v ∷ vs) o = ((λ ne c e. o.0 ne c (or_left (k (grp v) c) (l (grp v) c) e)), of_first w vs o.1)
 
-      of_second : (w : ℕ) (vs : List ℕ) → All (λ v. v ≢ w → Only united v) vs → All (λ v. v ≢ w → Only l v) vs
+      of_second : (w : ℕ) (vs : List ℕ) → AllByRecursion (λ v. v ≢ w → Only united v) vs → AllByRecursion (λ v. v ≢ w → Only l v) vs
       of_second w [] o = tt
       of_second w (v ∷ vs) o = ((λ ne c e. o.0 ne c (or_right (k (grp v) c) (l (grp v) c) e)), of_second w vs o.1)
 
-      go : (ws : List ℕ) → All (λ w. All (λ v. v ≢ w → Only k v) nogood → Gone k w) ws → All (λ w. All (λ v. v ≢ w → Only l v) nogood → Gone l w) ws
-          → All (λ w. All (λ v. v ≢ w → Only united v) nogood → Gone united w) ws
+      go : (ws : List ℕ) → AllByRecursion (λ w. AllByRecursion (λ v. v ≢ w → Only k v) nogood → Gone k w) ws → AllByRecursion (λ w. AllByRecursion (λ v. v ≢ w → Only l v) nogood → Gone l w) ws
+          → AllByRecursion (λ w. AllByRecursion (λ v. v ≢ w → Only united v) nogood → Gone united w) ws
       go [] a b = tt
       go (w ∷ ws) a b = ((λ o. neither (grp w) (chan w) (a.0 (of_first w nogood o)) (b.0 (of_second w nogood o))), go ws a.1 b.1)
 
-  join : {X : Type 0} (P Q R : X → Type 0) → ((x : X) → P x → Q x → R x) → (xs : List X) → All P xs → All Q xs → All R xs
+  join : {X : Type 0} (P Q R : X → Type 0) → ((x : X) → P x → Q x → R x) → (xs : List X) → AllByRecursion P xs → AllByRecursion Q xs → AllByRecursion R xs
   join P Q R f [] a b = tt
   join P Q R f (x ∷ xs) a b = (f x a.0 b.0, join P Q R f xs a.1 b.1)
 

@@ -1,6 +1,6 @@
 -- A plan that has all assignments taken and is not shut out remains, so a dead state has none.
-use Rattle.std.proofs.Common.{◌≡◌, ℕ, ◌<◌, Bool, true, false, not, ◌&&◌, eqb, ltb, ◌≢◌, ◌⊎◌, List, [], ◌∷◌, ◌++◌, length, get_or, Some, None, Option, sym, refl, ◌∙◌, subst, inl, inr, arith}
-use Rattle.std.specs.List.{AllByRecursion as All}
+use Rattle.std.proofs.Common.{◌≡◌, ℕ, ◌<◌, Bool, true, false, not, ◌&&◌, eqb, ltb, ◌≢◌, ◌⊎◌, List, [], ◌∷◌, ◌++◌, length, get_or, Some, None, Option, sym, refl, ◌∙◌, subst, inl, inr}
+use Rattle.std.specs.List.{AllByRecursion}
 use Rattle.std.proofs.lemmas.Bool.{both_ways, cases_Bool, cases_eq, and_parts, and_from, and_right, ltb-true, eqb-true, lt-ltb, eq-eqb, not-true, not-false, false≢true}
 use Rattle.rules.specs.Plans.{Listed}
 use Rattle.model.specs.Masks.{grp, chan}
@@ -47,7 +47,7 @@ module _ (lists : List ℕ) (x : List ℕ) where
   pub one_has : (g : ℕ) → g < length lists → one lists x g (get_or x g 64) ≡ true
   one_has g l = and_from _ _ (lt-ltb g (length lists) l) (eq-eqb (get_or x g 64) (get_or x g 64) refl)
 
-  pub one_obeys : (ds : List Decision) → contains x (takens ds) ≡ true → shut (reduced ds) x ≡ false → All (Obeys (one lists x)) ds
+  pub one_obeys : (ds : List Decision) → contains x (takens ds) ≡ true → shut (reduced ds) x ≡ false → AllByRecursion (Obeys (one lists x)) ds
   one_obeys [] t s = tt
   one_obeys (taken w ∷ ds) t s = (
     (λ c e. sym (one_is (grp w) c e) ∙ eqb-true _ _ (all_one (holds x) w (all_right (holds x) (takens ds) (w ∷ []) t))),
@@ -61,18 +61,18 @@ module _ (lists : List ℕ) (x : List ℕ) where
   )
 
   -- With all but w of a nogood alone in their groups, a choice that has w has all of it.
-  pub rest_held : (w : ℕ) → holds x w ≡ true → (ns : List ℕ) → All (Assignment lists) ns → All (λ v. v ≢ w → Only (one lists x) v) ns → All (λ v. holds x v ≡ true) ns
+  pub rest_held : (w : ℕ) → holds x w ≡ true → (ns : List ℕ) → AllByRecursion (Assignment lists) ns → AllByRecursion (λ v. v ≢ w → Only (one lists x) v) ns → AllByRecursion (λ v. holds x v ≡ true) ns
   rest_held w h [] l o = tt
   rest_held w h (v ∷ ns) l o = (
     elim (cases_eq v w) [ inl e ↦ rw e h | inr ne ↦ eq-eqb _ _ (o.0 ne (get_or x (grp v) 64) (one_has (grp v) l.0.group)) ],
     rest_held w h ns l.1 o.1,
   )
 
-  pub one_heeds : (ns : List ℕ) → All (Assignment lists) ns → contains x ns ≡ false → Heeds (one lists x) ns
+  pub one_heeds : (ns : List ℕ) → AllByRecursion (Assignment lists) ns → contains x ns ≡ false → Heeds (one lists x) ns
   one_heeds ns l s = of_all _ (λ w o. refuted (one lists x (grp w) (chan w)) (λ e.
       both_ways _ s (All-all (holds x) ns (rest_held w (and_parts (ltb (grp w) (length lists)) (holds x w) e).1 ns l o)))) ns
 
-  pub one_heeds_all : (base : List (List ℕ)) → All (Nogood lists) base → shut base x ≡ false → All (Heeds (one lists x)) base
+  pub one_heeds_all : (base : List (List ℕ)) → AllByRecursion (Nogood lists) base → shut base x ≡ false → AllByRecursion (Heeds (one lists x)) base
   one_heeds_all [] n s = tt
   one_heeds_all (ns ∷ base) n s = (
     one_heeds ns n.0.listed (refuted _ (λ h. both_ways _ s (any_left (contains x) (ns ∷ []) base (one_any (contains x) ns h)))),

@@ -1,7 +1,7 @@
 -- Tests of all and of some over lists.
 use Rattle.std.proofs.Common.{◌≡◌, ℕ, zero, suc, ◌<◌, Bool, true, false, ◌⊎◌, List, [], ◌∷◌, ◌++◌, refl, inl, inr, not-suc-le-zero, arith}
 use Rattle.std.proofs.lemmas.Bool.{and_parts, and_from, or_cases, or_left, or_right, false≢true, both_ways, cases_Bool, cases_eq}
-use Rattle.std.specs.List.{AllByRecursion as All}
+use Rattle.std.specs.List.{AllByRecursion}
 use Rattle.model.specs.Lists.{all, any}
 
 pub refuted : (t : Bool) → (t ≡ true → ⊥) → t ≡ false
@@ -32,11 +32,11 @@ module _ {A : Type 0} (p : A → Bool) where
   pub one_any : (x : A) → p x ≡ true → any p (x ∷ []) ≡ true
   one_any x e = or_left (p x) false e
 
-  pub all-All : (xs : List A) → all p xs ≡ true → All (λ x. p x ≡ true) xs
+  pub all-All : (xs : List A) → all p xs ≡ true → AllByRecursion (λ x. p x ≡ true) xs
   all-All [] e = tt
   all-All (x ∷ xs) e = let q : (p x ≡ true) × (all p xs ≡ true) = and_parts (p x) (all p xs) e in (q.0, all-All xs q.1)
 
-  pub All-all : (xs : List A) → All (λ x. p x ≡ true) xs → all p xs ≡ true
+  pub All-all : (xs : List A) → AllByRecursion (λ x. p x ≡ true) xs → all p xs ≡ true
   All-all [] h = refl
   All-all (x ∷ xs) h = and_from (p x) (all p xs) h.0 (All-all xs h.1)
 
@@ -73,6 +73,6 @@ seek p (suc n) = go (cases_Bool (p n)) (seek p n)
     go (inr e) (inr f) = inr (λ i h. elim (cases_eq i n) [ inl q ↦ rw q e | inr q ↦ f i (omega arith) ])
 
 -- What holds of everything holds of each element.
-pub of_all : {A : Type 0} (P : A → Type 0) → ((x : A) → P x) → (xs : List A) → All P xs
+pub of_all : {A : Type 0} (P : A → Type 0) → ((x : A) → P x) → (xs : List A) → AllByRecursion P xs
 of_all P f [] = tt
 of_all P f (x ∷ xs) = (f x, of_all P f xs)

@@ -1,10 +1,8 @@
 -- Choices, what shuts one out, plans, and all choices there are.
-use Rattle.std.specs.Prelude.{◌≡◌, ℕ, zero, suc, ◌+◌, ◌*◌, ◌<◌, Bool, false, cond, List, [], ◌∷◌, ◌++◌, map, length, Some, ◌==◌, slice_index_or}
+use Rattle.std.specs.Prelude.{ℕ, zero, suc, ◌+◌, ◌*◌, Bool, cond, List, [], ◌∷◌, ◌++◌, map, length, ◌==◌, slice_index_or}
 use Rattle.rules.specs.Channels.{has}
-use Rattle.rules.specs.Plans.{Listed}
 use Rattle.model.specs.Masks.{grp, chan}
 use Rattle.model.specs.Lists.{all, any}
-use Rattle.rules.specs.Meanings.{Meaning}
 
 -- A choice is a list with one number a group: the channel that the group is given, or 64 where it is given none.
 abbrev pub holds : List ℕ → ℕ → Bool

@@ -3,7 +3,7 @@
 use Rattle.std.specs.Prelude.{ℕ, ◌≢◌, List, [], ◌∷◌, ◌++◌}
 use Rattle.rules.specs.Plans.{Listed}
 use Rattle.model.specs.Masks.{grp, chan}
-use Rattle.std.specs.List.{AllByRecursion as All}
+use Rattle.std.specs.List.{AllByRecursion}
 
 -- An assignment, as its word, taken or refused.
 pub data Decision : Type 0 where
@@ -50,10 +50,10 @@ module _ (lists : List ℕ) where
 -- No two assignments of one group.
 abbrev pub Apart : List ℕ → Type 0
 Apart [] = Unit {0}
-Apart (w ∷ ws) = All (λ v. grp w ≢ grp v) ws × Apart ws
+Apart (w ∷ ws) = AllByRecursion (λ v. grp w ≢ grp v) ws × Apart ws
 
 -- A nogood: one or more listed assignments, at most one a group.
 pub record Nogood (lists : List ℕ) (assignments : List ℕ) : Type 0 where
   pub some : assignments ≢ []
-  pub listed : All (Assignment lists) assignments
+  pub listed : AllByRecursion (Assignment lists) assignments
   pub apart : Apart assignments

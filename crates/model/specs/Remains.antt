@@ -3,7 +3,7 @@ use Rattle.std.specs.Prelude.{◌≡◌, ℕ, ◌<◌, Bool, true, false, ◌≢
 use Rattle.rules.specs.Channels.{has}
 use Rattle.rules.specs.Plans.{Listed}
 use Rattle.model.specs.Masks.{grp, chan}
-use Rattle.std.specs.List.{AllByRecursion as All}
+use Rattle.std.specs.List.{AllByRecursion}
 use Rattle.rules.specs.Meanings.{Meaning}
 use Rattle.model.specs.Decisions.{Decision, taken, refused}
 
@@ -28,14 +28,14 @@ Obeys k (refused w) = Gone k w
 
 -- Each assignment of the nogood whose other assignments' groups keep no channel but theirs is gone.
 abbrev pub Heeds : Family → List ℕ → Type 0
-Heeds k nogood = All (λ w. All (λ v. v ≢ w → Only k v) nogood → Gone k w) nogood
+Heeds k nogood = AllByRecursion (λ w. AllByRecursion (λ v. v ≢ w → Only k v) nogood → Gone k w) nogood
 
 pub record Meets (lists : List ℕ) (book : Meaning) (base : List (List ℕ)) (branch : List Decision) (k : Family) : Type 0 where
   pub within : (g c : ℕ) → k g c ≡ true → Listed lists g c
-  pub decided : All (Obeys k) branch
+  pub decided : AllByRecursion (Obeys k) branch
   pub across : (i g h a : ℕ) → book.ends i ≡ Some (g, h) → k g a ≡ true → (b : ℕ) × (k h b ≡ true) × (book.permits i a b ≡ true)
   pub back : (i g h b : ℕ) → book.ends i ≡ Some (g, h) → k h b ≡ true → (a : ℕ) × (k g a ≡ true) × (book.permits i a b ≡ true)
-  pub heeded : All (Heeds k) base
+  pub heeded : AllByRecursion (Heeds k) base
 
 -- The largest family that meets the conditions.
 pub record Remains (lists : List ℕ) (book : Meaning) (base : List (List ℕ)) (branch : List Decision) (k : Family) : Type 0 where

@@ -1,6 +1,6 @@
 -- The laws of runs, for every run from the start.
 use Rattle.std.specs.Prelude.{◌≡◌, ℕ, ◌+◌, ◌*◌, ◌<◌, ◌≤◌, true, ◌||◌, List, [], ◌∷◌, length}
-use Rattle.std.specs.List.{AllByRecursion as All}
+use Rattle.std.specs.List.{AllByRecursion}
 use Rattle.rules.specs.Meanings.{Meaning, Lawful}
 use Rattle.model.specs.Decisions.{Decision, taken, refused, reduced, Branch, Nogood}
 use Rattle.model.specs.Words.{branch_of, recorded, base_of}
@@ -16,7 +16,7 @@ OnRuns P = (lists : List ℕ) (book : Meaning) (room : ℕ) → Lawful book → 
 
 -- The branch has listed assignments, none twice and none of a group taken before; the base has nogoods.
 abbrev pub Formed : Type 0
-Formed = OnRuns (λ lists book room s. Branch lists s.branch × All (Nogood lists) s.base)
+Formed = OnRuns (λ lists book room s. Branch lists s.branch × AllByRecursion (Nogood lists) s.base)
 
 -- So the branch has at most 64 decisions a group.
 abbrev pub BranchBounded : Type 0
