@@ -1,7 +1,7 @@
 -- What a call that is not refused has passed.
 use Rattle.std.proofs.Common.{◌≡◌, ℕ, zero, suc, ◌+◌, ◌-◌, ◌<◌, ◌≤◌, Bool, true, false, ◌&&◌, leb, ◌≢◌, List, [], ◌∷◌, ◌++◌, length, get_or, take, Some, None, sym, refl, ap, ◌∙◌, subst, arith, length-append}
 use Rattle.std.proofs.lemmas.List.{length-take-le}
-use Rattle.std.specs.List.{AllByRecursion as All}
+use Rattle.std.specs.List.{AllByRecursion}
 use Rattle.std.proofs.lemmas.Bool.{and_parts, eqb-true, leb-true}
 use Rattle.model.specs.Words.{branch_of, recorded}
 use Rattle.model.specs.Decisions.{reduced}
@@ -20,7 +20,7 @@ unless_none true n e = refl
 unless_none false n e = absurd (no_refusal (n, 0) e)
 
 -- Where the first refusal is none, all are.
-pub all_none : (rs : List Refusal) → first_of rs ≡ None → All (λ r. r ≡ None) rs
+pub all_none : (rs : List Refusal) → first_of rs ≡ None → AllByRecursion (λ r. r ≡ None) rs
 all_none [] e = tt
 all_none (Some r ∷ rs) e = absurd (no_refusal r e)
 all_none (None ∷ rs) e = (refl, all_none rs e)
@@ -98,7 +98,7 @@ module _ (lists : List ℕ) (q : Request) (s : State) (found : Found lists q s) 
       let u = found.carried.base_used in
       omega arith
 
-pub first_is : (rs : List Refusal) (r : ℕ × ℕ) → first_of rs ≡ Some r → (before after : List Refusal) × (rs ≡ before ++ Some r ∷ after) × All (λ c. c ≡ None) before
+pub first_is : (rs : List Refusal) (r : ℕ × ℕ) → first_of rs ≡ Some r → (before after : List Refusal) × (rs ≡ before ++ Some r ∷ after) × AllByRecursion (λ c. c ≡ None) before
 first_is [] r e = absurd (no_refusal r (sym e))
 first_is (Some q ∷ rs) r e = ([], rs, ap (λ (c : Refusal). c ∷ rs) e, tt)
 first_is (None ∷ rs) r e =
@@ -122,7 +122,7 @@ empty_is k (suc m ∷ ms) number g e =
     before i f zero l = λ e. absurd (omega arith)
     before i f (suc h) l = f h (omega arith)
 
-pub empty_none : (k : ℕ) (lists : List ℕ) → empty_from k lists ≡ None → All (λ m. m ≢ 0) lists
+pub empty_none : (k : ℕ) (lists : List ℕ) → empty_from k lists ≡ None → AllByRecursion (λ m. m ≢ 0) lists
 empty_none k [] e = tt
 empty_none k (zero ∷ ms) e = absurd (no_refusal (3, k) e)
 empty_none k (suc m ∷ ms) e = ((λ h. absurd (omega arith)), empty_none (suc k) ms e)

@@ -1,6 +1,6 @@
 -- The law of runs.
 use Rattle.std.proofs.Common.{◌≡◌, ℕ, zero, suc, ◌+◌, ◌*◌, ◌<◌, ◌≤◌, true, ◌⊎◌, List, [], ◌∷◌, ◌++◌, length, take, Some, None, sym, refl, ap, ◌∙◌, subst, inl, inr, append_assoc, le_trans, arith}
-use Rattle.std.specs.List.{AllByRecursion as All}
+use Rattle.std.specs.List.{AllByRecursion}
 use Rattle.std.proofs.ByRecursion.{All-weaker}
 use Rattle.rules.specs.Meanings.{Meaning, Lawful}
 use Rattle.rules.specs.Plans.{Plan}
@@ -49,7 +49,7 @@ module _ (lists : List ℕ) (book : Meaning) where
   module _ (order : Order) (lo : IsLawfulOrder order) (policy : Policy) (lp : IsLawfulPolicy policy) (room : ℕ) where
     trail_all : (P : State → Type 0) → ((s t : State) → Move lists book room s t → P s → P t)
         → (n : ℕ) (s : Search) (v : Verdict) (t : Search) (sits : Sits lists book order policy room n s v t) (past : List State)
-        → P s.state → All P past → All P (trail lists book order policy room sits past)
+        → P s.state → AllByRecursion P past → AllByRecursion P (trail lists book order policy room sits past)
     trail_all P step n s v t (ends_none masks l d e) past p h = h
     trail_all P step n s v t (ends_plan masks l x e q) past p h = h
     trail_all P step n s v t (spent g) past p h = h
@@ -58,8 +58,8 @@ module _ (lists : List ℕ) (book : Meaning) where
         trail_all P step m u v t rest (u.state ∷ past) q (q, h)
 
     trail_kept : (n : ℕ) (s : Search) (v : Verdict) (t : Search) (sits : Sits lists book order policy room n s v t) (past : List State)
-        → All (λ p. Kept p s.state) past × KeptThroughout past
-        → All (λ p. Kept p t.state) (trail lists book order policy room sits past) × KeptThroughout (trail lists book order policy room sits past)
+        → AllByRecursion (λ p. Kept p s.state) past × KeptThroughout past
+        → AllByRecursion (λ p. Kept p t.state) (trail lists book order policy room sits past) × KeptThroughout (trail lists book order policy room sits past)
     trail_kept n s v t (ends_none masks l d e) past h = h
     trail_kept n s v t (ends_plan masks l x e q) past h = h
     trail_kept n s v t (spent g) past h = h
@@ -79,7 +79,7 @@ module _ (lists : List ℕ) (book : Meaning) where
 
   -- What the first state has and every move keeps holds at the end of a run and at all its points.
   module _ (P : State → Type 0) (first : P start) (step : (room : ℕ) (s t : State) → Move lists book room s t → P s → P t) where
-    run_all : (v : Verdict) (s : State) (run : Run lists book v s) → P s × All P (history lists book run)
+    run_all : (v : Verdict) (s : State) (run : Run lists book v s) → P s × AllByRecursion P (history lists book run)
     run_all v s (opened q l b e) = (first, (first, tt))
     run_all v s (sat {s = s0} run q f b e order lo policy lp {t = t} sits) =
         let h = run_all unsettled s0 run in (
@@ -93,7 +93,7 @@ module _ (lists : List ℕ) (book : Meaning) where
     run_all v s (sitting_refused run q f n p e) = run_all v s run
     run_all v s (restart_refused run q f n p e) = run_all v s run
 
-  run_kept : (v : Verdict) (s : State) (run : Run lists book v s) → All (λ p. Kept p s) (history lists book run) × KeptThroughout (history lists book run)
+  run_kept : (v : Verdict) (s : State) (run : Run lists book v s) → AllByRecursion (λ p. Kept p s) (history lists book run) × KeptThroughout (history lists book run)
   run_kept v s (opened q l b e) = ((λ x h. h, tt), (tt, tt))
   run_kept v s (sat {s = s0} run q f b e order lo policy lp {t = t} sits) =
       trail_kept order lo policy lp (length q.base) q.allowance (begun s0) v t sits (history lists book run) (run_kept unsettled s0 run)

@@ -1,6 +1,6 @@
 -- The branch of a run never has all assignments there are: beside the last decided channel its group kept another.
 use Rattle.std.proofs.Common.{◌≡◌, ℕ, zero, suc, ◌+◌, ◌*◌, ◌<◌, ◌≤◌, true, ◌≢◌, ◌⊎◌, List, [], ◌∷◌, length, sym, refl, ap, ◌∙◌, subst, inl, inr, arith}
-use Rattle.std.specs.List.{AllByRecursion as All}
+use Rattle.std.specs.List.{AllByRecursion}
 use Rattle.model.specs.Masks.{grp, chan}
 use Rattle.rules.specs.Meanings.{Meaning}
 use Rattle.model.specs.Decisions.{Decision, taken, refused, word, takens, closed, Free, Assignment, Branch}
@@ -11,14 +11,14 @@ use Rattle.model.proofs.Marked.{branch_few}
 
 -- The branch is empty, or some listed assignment is not on it.
 abbrev pub Spare : List ℕ → State → Type 0
-Spare lists s = (s.branch ≡ []) ⊎ ((w : ℕ) × Assignment lists w × All (λ d. word d ≢ w) s.branch)
+Spare lists s = (s.branch ≡ []) ⊎ ((w : ℕ) × Assignment lists w × AllByRecursion (λ d. word d ≢ w) s.branch)
 
-closed_words : (w : ℕ) (ds : List Decision) → All (λ d. word d ≢ w) ds → All (λ d. word d ≢ w) (closed ds)
+closed_words : (w : ℕ) (ds : List Decision) → AllByRecursion (λ d. word d ≢ w) ds → AllByRecursion (λ d. word d ≢ w) (closed ds)
 closed_words w [] h = tt
 closed_words w (taken v ∷ ds) h = h
 closed_words w (refused v ∷ ds) h = closed_words w ds h.1
 
-free_words : (w : ℕ) (ds : List Decision) → Free w ds → All (λ d. word d ≢ w) ds
+free_words : (w : ℕ) (ds : List Decision) → Free w ds → AllByRecursion (λ d. word d ≢ w) ds
 free_words w [] f = tt
 free_words w (taken v ∷ ds) f = ((λ e. f.0 (ap grp e)), free_words w ds f.1)
 free_words w (refused v ∷ ds) f = (f.0, free_words w ds f.1)
@@ -47,7 +47,7 @@ abbrev refusals : List Decision → List Decision
 refusals [] = []
 refusals (d ∷ ds) = refused (word d) ∷ refusals ds
 
-free_refusals : (w : ℕ) (ds : List Decision) → All (λ d. word d ≢ w) ds → Free w (refusals ds)
+free_refusals : (w : ℕ) (ds : List Decision) → AllByRecursion (λ d. word d ≢ w) ds → Free w (refusals ds)
 free_refusals w [] h = tt
 free_refusals w (d ∷ ds) h = (h.0, free_refusals w ds h.1)
 
@@ -59,7 +59,7 @@ length_refusals : (ds : List Decision) → length (refusals ds) ≡ length ds
 length_refusals [] = refl
 length_refusals (d ∷ ds) = ap suc (length_refusals ds)
 
-pub spare_few : (lists : List ℕ) (ds : List Decision) → 1 ≤ length lists → Branch lists ds → (ds ≡ []) ⊎ ((w : ℕ) × Assignment lists w × All (λ d. word d ≢ w) ds) → length ds < 64 * length lists
+pub spare_few : (lists : List ℕ) (ds : List Decision) → 1 ≤ length lists → Branch lists ds → (ds ≡ []) ⊎ ((w : ℕ) × Assignment lists w × AllByRecursion (λ d. word d ≢ w) ds) → length ds < 64 * length lists
 spare_few lists ds one b (inl e) = rw e (omega arith)
 spare_few lists ds one b (inr (w, f, h)) =
     let few = branch_few lists (refused w ∷ refusals ds) (f, free_refusals w ds h, branch_refusals lists ds b) in

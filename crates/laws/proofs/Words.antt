@@ -1,6 +1,6 @@
 -- The tests of a branch and of a base say what they should.
 use Rattle.std.proofs.Common.{◌≡◌, ℕ, zero, suc, ◌+◌, ◌%◌, ◌<◌, ◌≤◌, Bool, true, false, not, ◌&&◌, eqb, ltb, ◌≢◌, List, [], ◌∷◌, ◌++◌, length, get_or, take, drop, Some, None, Option, sym, refl, ap, ◌∙◌, subst, arith}
-use Rattle.std.specs.List.{AllByRecursion as All}
+use Rattle.std.specs.List.{AllByRecursion}
 use Rattle.std.proofs.ByRecursion.{All-weaker}
 use Rattle.std.proofs.lemmas.Bool.{and_parts, and_from, and_right, ltb-true, lt-ltb, eqb-true, eq-eqb, eqb-false, ne_eqb, not_from_false, false≢true}
 use Rattle.rules.specs.Channels.{has}
@@ -156,14 +156,14 @@ recorded_whole ws ns e = go (cut 0 ws) refl e (cut_back 0 ws)
         k.1 ∙ ap (λ (l : List ℕ). l ++ recorded r.1) n ∙ ap recorded h
 
 module _ (lists : List ℕ) where
-  pub is_base : (ws : List ℕ) → base? lists ws ≡ true → (ns : List (List ℕ)) × (ws ≡ recorded ns) × All (Nogood lists) ns
+  pub is_base : (ws : List ℕ) → base? lists ws ≡ true → (ns : List (List ℕ)) × (ws ≡ recorded ns) × AllByRecursion (Nogood lists) ns
   is_base ws e = go (whole_base ws) refl e
     where
-      go : (o : Option (List (List ℕ))) → whole_base ws ≡ o → nogoods? lists o ≡ true → (ns : List (List ℕ)) × (ws ≡ recorded ns) × All (Nogood lists) ns
+      go : (o : Option (List (List ℕ))) → whole_base ws ≡ o → nogoods? lists o ≡ true → (ns : List (List ℕ)) × (ws ≡ recorded ns) × AllByRecursion (Nogood lists) ns
       go None f e = absurd (false≢true e)
       go (Some ns) f e = (ns, recorded_whole ws ns f, All-weaker (λ n. nogood? lists n ≡ true) (Nogood lists) (is_nogood lists) ns (all-All (nogood? lists) ns e))
 
-  pub base_is : (ns : List (List ℕ)) → All (Nogood lists) ns → base? lists (recorded ns) ≡ true
+  pub base_is : (ns : List (List ℕ)) → AllByRecursion (Nogood lists) ns → base? lists (recorded ns) ≡ true
   base_is ns h = ap (nogoods? lists) (whole_recorded ns) ∙ All-all (nogood? lists) ns (All-weaker (Nogood lists) (λ n. nogood? lists n ≡ true) (nogood_is lists) ns h)
 
 -- For a loop over the base: one nogood, and then the rest.

@@ -1,6 +1,6 @@
 -- The law of runs.
 use Rattle.std.specs.Prelude.{◌≡◌, ℕ, ◌+◌, ◌*◌, ◌<◌, ◌≤◌, true, List, [], ◌∷◌, ◌++◌, length}
-use Rattle.std.specs.List.{AllByRecursion as All}
+use Rattle.std.specs.List.{AllByRecursion}
 use Rattle.rules.specs.Meanings.{Meaning}
 use Rattle.rules.specs.Plans.{Complete, Breaks, Plan}
 use Rattle.model.specs.Choices.{shut, combinations}
@@ -15,7 +15,7 @@ Kept s t = (x : List ℕ) → shut (nogoods s) x ≡ true → shut (nogoods t) x
 -- Of any two states, what is shut out in the earlier is shut out in the later. They are listed newest first.
 abbrev pub KeptThroughout : List State → Type 0
 KeptThroughout [] = Unit {0}
-KeptThroughout (t ∷ past) = All (λ s. Kept s t) past × KeptThroughout past
+KeptThroughout (t ∷ past) = AllByRecursion (λ s. Kept s t) past × KeptThroughout past
 
 module _ (lists : List ℕ) (book : Meaning) where
   -- At a point: every complete choice that is shut out breaks a rule; closings stay below the number of choices, and moves are bounded by closings.
@@ -27,7 +27,7 @@ module _ (lists : List ℕ) (book : Meaning) where
   pub record Law {v : Verdict} {s : State} (run : Run lists book v s) : Type 0 where
     pub here : Good s
     pub latest : (past : List State) × (history lists book run ≡ s ∷ past)
-    pub throughout : All Good (history lists book run)
+    pub throughout : AllByRecursion Good (history lists book run)
     pub kept : KeptThroughout (history lists book run)
     pub none_right : v ≡ none → (x : List ℕ) → Plan lists book x → ⊥
     pub plan_right : (x : List ℕ) → v ≡ plan x → Plan lists book x

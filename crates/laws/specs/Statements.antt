@@ -1,6 +1,6 @@
 -- The theorems on runs of calls.
 use Rattle.std.specs.Prelude.{◌≡◌, ℕ, ◌+◌, ◌*◌, ◌<◌, true, ◌≢◌, ◌⊎◌, List, ◌∷◌, ◌++◌, length, Some, None, slice_index}
-use Rattle.std.specs.List.{AllByRecursion as All}
+use Rattle.std.specs.List.{AllByRecursion}
 use Rattle.rules.specs.Meanings.{Meaning, Lawful}
 use Rattle.model.specs.Decisions.{Decision, Branch, Nogood}
 use Rattle.model.specs.Words.{recorded}
@@ -73,20 +73,20 @@ BranchTested = (lists : List ℕ) (ds : List Decision) → (branch? lists ds ≡
 -- The words of recorded nogoods are read as these nogoods; and the test of a base passes just where its words are nogoods recorded.
 abbrev pub BaseTested : Type 0
 BaseTested = ((ns : List (List ℕ)) → whole_base (recorded ns) ≡ Some ns)
-    × ((lists ws : List ℕ) → base? lists ws ≡ true → (ns : List (List ℕ)) × (ws ≡ recorded ns) × All (Nogood lists) ns)
-    × ((lists : List ℕ) (ns : List (List ℕ)) → All (Nogood lists) ns → base? lists (recorded ns) ≡ true)
+    × ((lists ws : List ℕ) → base? lists ws ≡ true → (ns : List (List ℕ)) × (ws ≡ recorded ns) × AllByRecursion (Nogood lists) ns)
+    × ((lists : List ℕ) (ns : List (List ℕ)) → AllByRecursion (Nogood lists) ns → base? lists (recorded ns) ≡ true)
 
 -- A refusal is that of a check which no other that fails comes before; without one, no check fails.
 abbrev pub FirstRefusal : Type 0
 FirstRefusal = (checks : List Refusal)
-    → ((r : ℕ × ℕ) → first_of checks ≡ Some r → (before after : List Refusal) × (checks ≡ before ++ Some r ∷ after) × All (λ c. c ≡ None) before)
-    × (first_of checks ≡ None → All (λ c. c ≡ None) checks)
+    → ((r : ℕ × ℕ) → first_of checks ≡ Some r → (before after : List Refusal) × (checks ≡ before ++ Some r ∷ after) × AllByRecursion (λ c. c ≡ None) before)
+    × (first_of checks ≡ None → AllByRecursion (λ c. c ≡ None) checks)
 
 -- Number 3 comes with the lowest group whose list is 0, and does not come where no list is.
 abbrev pub LowestEmpty : Type 0
 LowestEmpty = (lists : List ℕ)
     → ((number g : ℕ) → empty_from 0 lists ≡ Some (number, g) → (number ≡ 3) × (g < length lists) × (slice_index lists g ≡ 0) × ((h : ℕ) → h < g → slice_index lists h ≢ 0))
-    × (empty_from 0 lists ≡ None → All (λ m. m ≢ 0) lists)
+    × (empty_from 0 lists ≡ None → AllByRecursion (λ m. m ≢ 0) lists)
 
 -- A call that finds the regions as the call before left them passes the tests of the branch and of the base, and the branch has room.
 abbrev pub Undisturbed : Type 0

@@ -1,6 +1,6 @@
 -- One more decision, from the family in hand. Assumes nothing.
 use Rattle.std.proofs.Common.{◌≡◌, ℕ, zero, suc, ◌+◌, ◌-◌, ◌*◌, ◌/◌, ◌%◌, ◌^◌, ◌<◌, ◌≤◌, Bool, true, false, ◌&&◌, eqb, ◌⊎◌, List, [], ◌∷◌, length, get_or, set, sym, refl, ap, ◌∙◌, subst, inl, inr, arith}
-use Rattle.std.specs.List.{AllByRecursion as All}
+use Rattle.std.specs.List.{AllByRecursion}
 use Rattle.std.proofs.lemmas.Bool.{both_ways, cases_eq, eq-eqb}
 use Rattle.rules.specs.Meanings.{Meaning}
 use Rattle.rules.specs.Channels.{has}
@@ -32,7 +32,7 @@ within_le a b q h = digs_le 64 a b q (λ j e. has_dig b j (h j (eq-eqb _ _ e)))
 pub agrees_calm : (m : Meaning) (base : List (List ℕ)) (ms : List ℕ) (q : List RuleEnd) → Agrees m base (family ms) → Calm m ms q
 agrees_calm m base ms q a i s _ = a.supported i s
 
-pub agrees_good : (m : Meaning) (base : List (List ℕ)) (ms : List ℕ) (s : List Assignment) → Agrees m base (family ms) → All (Good ms s) base
+pub agrees_good : (m : Meaning) (base : List (List ℕ)) (ms : List ℕ) (s : List Assignment) → Agrees m base (family ms) → AllByRecursion (Good ms s) base
 agrees_good m base ms s a = All-weaker (Heeds (family ms)) (Good ms s) (λ n h _. h) base a.heeds
 
 -- where every group keeps something no set is empty

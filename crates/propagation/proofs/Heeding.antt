@@ -1,6 +1,6 @@
 -- Nogoods heeded. Assumes nothing.
 use Rattle.std.proofs.Common.{◌≡◌, ℕ, zero, suc, ◌+◌, ◌-◌, ◌/◌, ◌%◌, ◌^◌, ◌<◌, ◌≤◌, Bool, true, false, not, ◌&&◌, ◌≢◌, ◌⊎◌, List, [], ◌∷◌, ◌++◌, length, get_or, take, drop, set, sym, refl, ap, ◌∙◌, subst, inl, inr, arith}
-use Rattle.std.specs.List.{AllByRecursion as All}
+use Rattle.std.specs.List.{AllByRecursion}
 use Rattle.std.proofs.lemmas.Bool.{cases_eq, both_ways}
 use Rattle.std.proofs.lemmas.List.{length-set, length-drop, get_or-set_same, drop-drop, drop_more, take_all, drop_all}
 use Rattle.std.proofs.ByRecursion.{All-get_or, All-from_get_or, All-weaker}
@@ -60,15 +60,15 @@ forced_inside k l n w ins f = All-weaker (λ v. v ≢ w → Only l v) (λ v. v �
 
 -- what a nogood asks of one of its assignments
 pub heeds_at : (k : Family) (n : List ℕ) (i : ℕ) → i < length n → Heeds k n → Forced k n (get_or n i 0) → Gone k (get_or n i 0)
-heeds_at k n i l h = All-get_or (λ w. All (λ v. v ≢ w → Only k v) n → Gone k w) n i 0 l h
+heeds_at k n i l h = All-get_or (λ w. AllByRecursion (λ v. v ≢ w → Only k v) n → Gone k w) n i 0 l h
 
 -- where no assignment is forced
 pub unforced_heeds : (k : Family) (n : List ℕ) → ((i : ℕ) → i < length n → Forced k n (get_or n i 0) → ⊥) → Heeds k n
-unforced_heeds k n h = All-from_get_or (λ w. All (λ v. v ≢ w → Only k v) n → Gone k w) n 0 (λ i l f. absurd (h i l f))
+unforced_heeds k n h = All-from_get_or (λ w. AllByRecursion (λ v. v ≢ w → Only k v) n → Gone k w) n 0 (λ i l f. absurd (h i l f))
 
 -- where one is gone from a group that keeps something
 pub gone_heeds : (k : Family) (n : List ℕ) (i : ℕ) → i < length n → Gone k (get_or n i 0) → (c : ℕ) × (k (grp (get_or n i 0)) c ≡ true) → Heeds k n
-gone_heeds k n i l gone some = All-from_get_or (λ w. All (λ v. v ≢ w → Only k v) n → Gone k w) n 0 (λ j m f.
+gone_heeds k n i l gone some = All-from_get_or (λ w. AllByRecursion (λ v. v ≢ w → Only k v) n → Gone k w) n 0 (λ j m f.
     elim (cases_eq (get_or n i 0) (get_or n j 0)) [
       | inl q ↦ subst (λ (x : ℕ). Gone k x) q gone
       | inr d ↦ (let o = All-get_or (λ v. v ≢ get_or n j 0 → Only k v) n i 0 l f d in

@@ -1,6 +1,6 @@
 -- Decisions and their sets. Assumes nothing.
 use Rattle.std.proofs.Common.{◌≡◌, ℕ, zero, suc, ◌+◌, ◌-◌, ◌/◌, ◌%◌, ◌^◌, ◌<◌, ◌≤◌, Bool, true, false, not, ◌&&◌, ◌||◌, eqb, ◌≢◌, ◌⊎◌, List, [], ◌∷◌, length, get_or, set, sym, refl, ap, ◌∙◌, subst, inl, inr, zero-add, arith}
-use Rattle.std.specs.List.{AllByRecursion as All}
+use Rattle.std.specs.List.{AllByRecursion}
 use Rattle.std.proofs.lemmas.Bool.{cases_eq, both_ways, and_parts, and_from, eqb-true, eq-eqb}
 use Rattle.rules.specs.Channels.{has}
 use Rattle.model.specs.Masks.{grp, chan}
@@ -49,11 +49,11 @@ module _ (ms : List ℕ) (v r : ℕ) (here : v / 64 < length ms) (bits : (j : �
           subst (λ (y : ℕ). family (set ms (v / 64) r) y c ≡ true) (sym q) (at_same ms (v / 64) r here c ∙ bits c ∙ and_from _ _ (ins (v / 64) c h') (eq-eqb c (v % 64) (o c h')))
 
 -- the decisions of a branch by their places
-pub branch_all : (P : Decision → Type 0) (ws : List ℕ) (n : ℕ) → ((i : ℕ) → i < n → P (decision (get_or ws i 0))) → All P (branch_of ws n)
+pub branch_all : (P : Decision → Type 0) (ws : List ℕ) (n : ℕ) → ((i : ℕ) → i < n → P (decision (get_or ws i 0))) → AllByRecursion P (branch_of ws n)
 branch_all P ws zero h = tt
 branch_all P ws (suc n) h = (h n (omega arith), branch_all P ws n (λ i l. h i (omega arith)))
 
-pub all_branch : (P : Decision → Type 0) (ws : List ℕ) (n : ℕ) → All P (branch_of ws n) → (i : ℕ) → i < n → P (decision (get_or ws i 0))
+pub all_branch : (P : Decision → Type 0) (ws : List ℕ) (n : ℕ) → AllByRecursion P (branch_of ws n) → (i : ℕ) → i < n → P (decision (get_or ws i 0))
 all_branch P ws zero a i l = absurd (omega arith)
 all_branch P ws (suc n) a i l = elim (cases_eq i n) [
   | inl q ↦ subst (λ (x : ℕ). P (decision (get_or ws x 0))) (sym q) a.0

@@ -1,6 +1,6 @@
 -- One turn of the work. Assumes nothing.
 use Rattle.std.proofs.Common.{◌≡◌, ℕ, zero, suc, ◌+◌, ◌-◌, ◌*◌, ◌/◌, ◌<◌, ◌≤◌, Bool, true, false, ◌||◌, eqb, ◌≢◌, ◌⊎◌, List, [], ◌∷◌, ◌++◌, length, get_or, Some, None, sum, sym, refl, ap, ◌∙◌, subst, inl, inr, mul-le-mul_right, add-mul, one-mul, arith}
-use Rattle.std.specs.List.{AllByRecursion as All}
+use Rattle.std.specs.List.{AllByRecursion}
 use Rattle.std.proofs.ByRecursion.{All-weaker}
 use Rattle.std.proofs.lemmas.Bool.{cases_eq, or_left, or_right, or_from, ne_eqb, eq-eqb}
 use Rattle.rules.specs.Meanings.{Meaning}
@@ -75,7 +75,7 @@ calm_looked m d e r s c done i b h = go (cases_eq (at_end i b) (place r))
     go (inr n) = let u = s.ends i b h in u.1 (c i b (or_from _ _ (ne_eqb (place r) (at_end i b) (λ q. n (sym q))) u.0))
 
 -- where nothing waits
-pub all_done : (m : Meaning) (base : List (List ℕ)) (ms : List ℕ) (q : List RuleEnd) (s : List Assignment) → q ≡ [] → s ≡ [] → Calm m ms q → All (Good ms s) base → Agrees m base (family ms)
+pub all_done : (m : Meaning) (base : List (List ℕ)) (ms : List ℕ) (q : List RuleEnd) (s : List Assignment) → q ≡ [] → s ≡ [] → Calm m ms q → AllByRecursion (Good ms s) base → Agrees m base (family ms)
 all_done m base ms q s eq es c g = record {
   supported = λ i b. c i b (ap (λ (x : List RuleEnd). waits x (at_end i b)) eq);
   heeds = All-weaker (Good ms s) (Heeds (family ms)) (λ n h. h (of_all (λ v. noted s v ≡ false) (λ v. ap (λ (x : List Assignment). noted x v) es) n)) base g;
@@ -85,12 +85,12 @@ pub settled_from : (ms : List ℕ) (p s : List Assignment) (f : Assignment) → 
 settled_from ms p s f e st = settled_rest ms f s (subst (λ (x : List Assignment). Settled ms x) e st)
 
 -- a nogood without the assignment that was taken out of line is as good as before
-pub spare : (ms : List ℕ) (p s : List Assignment) (f : Assignment) (v : ℕ) → p ≡ f ∷ s → v ≡ 64 * f.group + f.channel → (base : List (List ℕ)) → All (Good ms p) base → All (λ n. Spared (Some v) n → Good ms s n) base
+pub spare : (ms : List ℕ) (p s : List Assignment) (f : Assignment) (v : ℕ) → p ≡ f ∷ s → v ≡ 64 * f.group + f.channel → (base : List (List ℕ)) → AllByRecursion (Good ms p) base → AllByRecursion (λ n. Spared (Some v) n → Good ms s n) base
 spare ms p s f v e ev base a = All-weaker (Good ms p) (λ n. Spared (Some v) n → Good ms s n) one base a
   where
     one : (n : List ℕ) → Good ms p n → Spared (Some v) n → Good ms s n
-    one n good sp quiet = good (subst (λ (x : List Assignment). All (λ w. noted x w ≡ false) n) (sym e)
+    one n good sp quiet = good (subst (λ (x : List Assignment). AllByRecursion (λ w. noted x w ≡ false) n) (sym e)
         (all_join (λ x. x ≢ v) (λ w. noted s w ≡ false) (λ w. noted (f ∷ s) w ≡ false) (λ x d h. or_from _ _ (ne_eqb (64 * f.group + f.channel) x (λ q. d (sym (ev ∙ q)))) h) n sp quiet))
 
-pub spare_none : (ms : List ℕ) (s : List Assignment) (base : List (List ℕ)) → All (λ n. Spared None n → Good ms s n) base
+pub spare_none : (ms : List ℕ) (s : List Assignment) (base : List (List ℕ)) → AllByRecursion (λ n. Spared None n → Good ms s n) base
 spare_none ms s base = of_all (λ n. Spared None n → Good ms s n) (λ n h. absurd h) base

@@ -1,6 +1,6 @@
 -- The base part by part. Assumes nothing.
 use Rattle.std.proofs.Common.{◌≡◌, ℕ, zero, suc, ◌+◌, ◌-◌, ◌/◌, ◌<◌, ◌≤◌, Bool, true, false, ◌≢◌, ◌⊎◌, List, [], ◌∷◌, ◌++◌, length, get_or, take, drop, sym, refl, ap, ◌∙◌, subst, inl, inr, arith}
-use Rattle.std.specs.List.{AllByRecursion as All}
+use Rattle.std.specs.List.{AllByRecursion}
 use Rattle.std.proofs.lemmas.List.{length-drop, drop-drop, drop_more, take_all, drop_all, take_rest, take_at, drop_at, append_assoc, append-nil}
 use Rattle.std.proofs.ByRecursion.{All-get_or, All-from_get_or, All-weaker, All-push}
 use Rattle.rules.specs.Meanings.{Meaning}
@@ -34,14 +34,14 @@ base_long ws p h l =
 pub base_end : (ws : List ℕ) (p : ℕ) → length ws ≤ p → base_of (drop p ws) ≡ []
 base_end ws p h = ap base_of (drop_all p ws h)
 
-pub all_mid : {X : Type 0} (P : X → Type 0) (xs ys : List X) (z : X) (zs : List X) → xs ≡ ys ++ z ∷ zs → All P xs → P z
-all_mid P xs ys z zs e a = go ys (subst (λ (x : List _). All P x) e a)
+pub all_mid : {X : Type 0} (P : X → Type 0) (xs ys : List X) (z : X) (zs : List X) → xs ≡ ys ++ z ∷ zs → AllByRecursion P xs → P z
+all_mid P xs ys z zs e a = go ys (subst (λ (x : List _). AllByRecursion P x) e a)
   where
-    go : (ys : List _) → All P (ys ++ z ∷ zs) → P z
+    go : (ys : List _) → AllByRecursion P (ys ++ z ∷ zs) → P z
     go [] b = b.0
     go (y ∷ ys) b = go ys b.1
 
-pub all_join : {X : Type 0} (P Q R : X → Type 0) → ((x : X) → P x → Q x → R x) → (xs : List X) → All P xs → All Q xs → All R xs
+pub all_join : {X : Type 0} (P Q R : X → Type 0) → ((x : X) → P x → Q x → R x) → (xs : List X) → AllByRecursion P xs → AllByRecursion Q xs → AllByRecursion R xs
 all_join P Q R f [] a b = tt
 all_join P Q R f (x ∷ xs) a b = (f x a.0 b.0, all_join P Q R f xs a.1 b.1)
 
@@ -49,7 +49,7 @@ all_join P Q R f (x ∷ xs) a b = (f x a.0 b.0, all_join P Q R f xs a.1 b.1)
 pub good_step : (m : Meaning) (d e : Desk) → Step m d e → (n : List ℕ) → Good d.masks d.assignments n → Good e.masks e.assignments n
 good_step m d e s n good quiet =
     let before = All-weaker (λ v. noted e.assignments v ≡ false) (λ v. noted d.assignments v ≡ false) (λ v h. (s.assignments v h).0) n quiet in
-    All-weaker (λ w. All (λ v. v ≢ w → Only (family d.masks) v) n → Gone (family d.masks) w) (λ w. All (λ v. v ≢ w → Only (family e.masks) v) n → Gone (family e.masks) w)
+    All-weaker (λ w. AllByRecursion (λ v. v ≢ w → Only (family d.masks) v) n → Gone (family d.masks) w) (λ w. AllByRecursion (λ v. v ≢ w → Only (family e.masks) v) n → Gone (family e.masks) w)
     (λ w h f. let g = h (all_join (λ v. noted e.assignments v ≡ false) (λ v. v ≢ w → Only (family e.masks) v) (λ v. v ≢ w → Only (family d.masks) v) (λ v q o x. (s.assignments v q).1 (o x)) n quiet f) in
     refuted (family e.masks (w / 64) _) (λ x. both_ways (family d.masks (w / 64) _) g (s.inside (w / 64) _ x)))
     n (good before)

@@ -1,23 +1,23 @@
 -- Nogoods that are heeded.
 use Rattle.std.specs.Prelude.{◌≡◌, ℕ, ◌/◌, ◌<◌, Bool, true, false, ◌≢◌, List, Some, None, Option}
-use Rattle.std.specs.List.{AllByRecursion as All}
+use Rattle.std.specs.List.{AllByRecursion}
 use Rattle.model.specs.Remains.{Family, family, Only, Heeds}
 use Rattle.propagation.specs.declared.records.Assignment.{Assignment}
 use Rattle.propagation.specs.Desks.{noted}
 
 -- The groups of all assignments are below n.
 abbrev pub Grouped : ℕ → List ℕ → Type 0
-Grouped n nogood = All (λ v. v / 64 < n) nogood
+Grouped n nogood = AllByRecursion (λ v. v / 64 < n) nogood
 
 -- The other assignments' groups keep no channel but theirs.
 abbrev pub Forced : Family → List ℕ → ℕ → Type 0
-Forced k nogood w = All (λ v. v ≢ w → Only k v) nogood
+Forced k nogood w = AllByRecursion (λ v. v ≢ w → Only k v) nogood
 
 -- The nogood is heeded, unless one of its assignments waits as just settled.
 abbrev pub Good : List ℕ → List Assignment → List ℕ → Type 0
-Good ms s nogood = All (λ v. noted s v ≡ false) nogood → Heeds (family ms) nogood
+Good ms s nogood = AllByRecursion (λ v. noted s v ≡ false) nogood → Heeds (family ms) nogood
 
 -- A nogood need not be looked at for an assignment that it does not have. (Where no assignment is named each is looked at.)
 abbrev pub Spared : Option ℕ → List ℕ → Type 0
 Spared None nogood = ⊥
-Spared (Some v) nogood = All (λ x. x ≢ v) nogood
+Spared (Some v) nogood = AllByRecursion (λ x. x ≢ v) nogood

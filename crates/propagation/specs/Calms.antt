@@ -1,6 +1,6 @@
 -- What the work on a desk keeps: nothing is amiss but at what waits.
 use Rattle.std.specs.Prelude.{◌≡◌, ℕ, ◌+◌, ◌*◌, ◌<◌, Bool, true, false, List, length, sum}
-use Rattle.std.specs.List.{AllByRecursion as All}
+use Rattle.std.specs.List.{AllByRecursion}
 use Rattle.rules.specs.Meanings.{Meaning}
 use Rattle.model.specs.Remains.{Family, family, Heeds}
 use Rattle.propagation.specs.declared.records.RuleEnd.{RuleEnd}
@@ -18,12 +18,12 @@ Calm m ms q = (i : ℕ) (s : Bool) → waits q (at_end i s) ≡ false → Suppor
 -- The family supports all rule ends and heeds all nogoods.
 pub record Agrees (m : Meaning) (base : List (List ℕ)) (k : Family) : Type 0 where
   pub supported : (i : ℕ) (s : Bool) → Supported m k i s
-  pub heeds : All (Heeds k) base
+  pub heeds : AllByRecursion (Heeds k) base
 
 -- Nothing is amiss but at what waits.
 pub record Going (m : Meaning) (base : List (List ℕ)) (d : Desk) : Type 0 where
   pub calm : Calm m d.masks d.ends
-  pub good : All (Good d.masks d.assignments) base
+  pub good : AllByRecursion (Good d.masks d.assignments) base
 
 -- What is left to do: what remains counts for more than all that may wait.
 abbrev pub weight : Meaning → Desk → ℕ

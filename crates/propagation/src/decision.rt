@@ -1,6 +1,6 @@
 // What remains after one more decision, worked out from the family in hand.
 ghost use Rattle.std.specs.Prelude.{◌≡◌, ℕ, ◌-◌, ◌*◌, ◌<◌, ◌≤◌, true, false, [], length, take, drop, ◌≢◌, slice_index, slice_set};
-ghost use Rattle.std.specs.List.{AllByRecursion as All};
+ghost use Rattle.std.specs.List.{AllByRecursion};
 ghost use Rattle.rules.specs.Channels.{has};
 ghost use Rattle.propagation.specs.Waiting.{queued, size};
 ghost use Rattle.model.specs.Masks.{grp};
@@ -42,7 +42,7 @@ pub fn resume<B: RuleBook>(
     requires words { length marks.old ≡ 256 }
     requires free { (queued ends.old ≡ []) × (queued settled.old ≡ []) }
     requires alive { (x : ℕ) → x < length domains.old → slice_index domains.old x ≢ 0 }
-    requires grouped { All (Grouped (length domains.old)) (base_of base.now) }
+    requires grouped { AllByRecursion (Grouped (length domains.old)) (base_of base.now) }
     requires agrees { Agrees (meaning book.now) (base_of base.now) (family domains.old) }
     requires group { g < length domains.old }
     requires within { (j : ℕ) → has keeps j ≡ true → has (slice_index domains.old g) j ≡ true }
@@ -79,7 +79,7 @@ pub fn filter_decision<B: RuleBook>(
     requires places { 2 * (meaning book.now).count ≤ length ends.old }
     requires slots { length lists.now ≤ length settled.old }
     requires words { length marks.old ≡ 256 }
-    requires grouped { All (Grouped (length lists.now)) (base_of base.now) }
+    requires grouped { AllByRecursion (Grouped (length lists.now)) (base_of base.now) }
     requires some { 0 < length branch.now }
     requires taken { slice_index branch.now (length branch.now - 1) < 65536 }
     requires group { grp (slice_index branch.now (length branch.now - 1)) < length lists.now }
@@ -124,7 +124,7 @@ pub fn propagate_decision<B: RuleBook>(
     requires places { 2 * (meaning book.now).count ≤ length ends.old }
     requires slots { length lists.now ≤ length settled.old }
     requires words { 256 ≤ length marks.old }
-    requires grouped { All (Grouped (length lists.now)) (base_of base.now) }
+    requires grouped { AllByRecursion (Grouped (length lists.now)) (base_of base.now) }
     requires some { 0 < length branch.now }
     requires taken { slice_index branch.now (length branch.now - 1) < 65536 }
     requires group { grp (slice_index branch.now (length branch.now - 1)) < length lists.now }

@@ -1,6 +1,6 @@
 // What remains of the lists, exactly.
 ghost use Rattle.std.specs.Prelude.{◌≡◌, ℕ, ◌*◌, ◌<◌, ◌≤◌, true, false, [], length, take, drop, ◌≢◌, slice_index};
-ghost use Rattle.std.specs.List.{AllByRecursion as All};
+ghost use Rattle.std.specs.List.{AllByRecursion};
 ghost use Rattle.propagation.specs.Waiting.{queued, size};
 ghost use Rattle.model.specs.Masks.{grp};
 ghost use Rattle.model.specs.Decisions.{word as assigned};
@@ -56,7 +56,7 @@ pub fn run<B: RuleBook>(
     requires words { length marks.old ≡ 256 }
     requires free { (queued ends.old ≡ []) × (queued settled.old ≡ []) }
     requires alive { (g : ℕ) → g < length domains.old → slice_index domains.old g ≢ 0 }
-    requires grouped { All (Grouped (length domains.old)) (base_of base.now) }
+    requires grouped { AllByRecursion (Grouped (length domains.old)) (base_of base.now) }
     ensures within { (k : Family) → Agrees (meaning book.now) (base_of base.now) k → Inside k (family domains.old) → Inside k (family domains.new) }
     ensures inside { result ≡ true → Inside (family domains.new) (family domains.old) }
     ensures dead { result ≡ false → Emptied domains.new }
@@ -92,7 +92,7 @@ pub fn filter<B: RuleBook>(
     requires slots { length lists.now ≤ length settled.old }
     requires words { length marks.old ≡ 256 }
     requires decided { (i : ℕ) → i < length branch.now → grp (assigned (decision (slice_index branch.now i))) < length lists.now }
-    requires grouped { All (Grouped (length lists.now)) (base_of base.now) }
+    requires grouped { AllByRecursion (Grouped (length lists.now)) (base_of base.now) }
     ensures dead { result ≡ false → Dies lists.now (meaning book.now) (base_of base.now) (branch_of branch.now (length branch.now)) }
     ensures lives { result ≡ true → Lives lists.now (meaning book.now) (base_of base.now) (branch_of branch.now (length branch.now)) domains.new }
 {
@@ -132,7 +132,7 @@ pub fn propagate<B: RuleBook>(
     requires slots { length lists.now ≤ length settled.old }
     requires words { 256 ≤ length marks.old }
     requires decided { (i : ℕ) → i < length branch.now → grp (assigned (decision (slice_index branch.now i))) < length lists.now }
-    requires grouped { All (Grouped (length lists.now)) (base_of base.now) }
+    requires grouped { AllByRecursion (Grouped (length lists.now)) (base_of base.now) }
     ensures dead { result ≡ false → Dies lists.now (meaning book.now) (base_of base.now) (branch_of branch.now (length branch.now)) }
     ensures lives { result ≡ true → Lives lists.now (meaning book.now) (base_of base.now) (branch_of branch.now (length branch.now)) (take (length lists.now) domains.new) }
     ensures beyond { drop (length lists.now) domains.new ≡ drop (length lists.now) domains.old }

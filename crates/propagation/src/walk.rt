@@ -1,6 +1,6 @@
 // The walk over the base.
 ghost use Rattle.std.specs.Prelude.{◌≡◌, ℕ, ◌+◌, ◌-◌, ◌<◌, ◌≤◌, true, false, ◌≢◌, ◌∷◌, length, take, drop};
-ghost use Rattle.std.specs.List.{AllByRecursion as All};
+ghost use Rattle.std.specs.List.{AllByRecursion};
 ghost use Rattle.propagation.specs.Waiting.{queued};
 ghost use Rattle.model.specs.Remains.{Family, family, Heeds};
 ghost use Rattle.propagation.specs.Supports.{Inside};
@@ -28,7 +28,7 @@ pub fn part_end(base: &[u32], pos: usize) -> usize
 
 // Whether the nogood lacks the assignment.
 pub fn lacks(nogood: &[u32], v: u32) -> bool
-    ensures { result ≡ true → All (λ x. x ≢ v) nogood.now }
+    ensures { result ≡ true → AllByRecursion (λ x. x ≢ v) nogood.now }
 {
     for k in 0..nogood.len() {
         if nogood[k] == v {
@@ -88,14 +88,14 @@ pub fn heed_all<B: RuleBook>(
 ) -> bool
     requires wired { Wired (meaning book.now) wires.now }
     requires held { Held (meaning book.now) (desk domains.old ends.old marks.old settled.old) }
-    requires grouped { All (Grouped (length domains.old)) (base_of base.now) }
+    requires grouped { AllByRecursion (Grouped (length domains.old)) (base_of base.now) }
     requires narrow { length domains.old ≤ 65536 }
-    requires others { All (λ n. Spared just n → Good domains.old (queued settled.old) n) (base_of base.now) }
-    ensures within { (k : Family) → All (Heeds k) (base_of base.now) → Inside k (family domains.old) → Inside k (family domains.new) }
+    requires others { AllByRecursion (λ n. Spared just n → Good domains.old (queued settled.old) n) (base_of base.now) }
+    ensures within { (k : Family) → AllByRecursion (Heeds k) (base_of base.now) → Inside k (family domains.old) → Inside k (family domains.new) }
     ensures dead { result ≡ false → Emptied domains.new }
     ensures held { result ≡ true → Held (meaning book.now) (desk domains.new ends.new marks.new settled.new) }
     ensures step { result ≡ true → Step (meaning book.now) (desk domains.old ends.old marks.old settled.old) (desk domains.new ends.new marks.new settled.new) }
-    ensures good { result ≡ true → All (Good domains.new (queued settled.new)) (base_of base.now) }
+    ensures good { result ≡ true → AllByRecursion (Good domains.new (queued settled.new)) (base_of base.now) }
 {
     let mut pos = 0;
     while pos < base.len() {

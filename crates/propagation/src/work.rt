@@ -1,6 +1,6 @@
 // Takes what waits, until nothing does.
 ghost use Rattle.std.specs.Prelude.{◌≡◌, ℕ, ◌<◌, ◌≤◌, true, false, length};
-ghost use Rattle.std.specs.List.{AllByRecursion as All};
+ghost use Rattle.std.specs.List.{AllByRecursion};
 ghost use Rattle.model.specs.Remains.{Family, family};
 ghost use Rattle.propagation.specs.Supports.{Inside};
 ghost use Rattle.propagation.specs.Desks.{desk, Held, Emptied};
@@ -37,7 +37,7 @@ pub fn take_turn<B: RuleBook>(
     requires wired { Wired (meaning book.now) wires.now }
     requires held { Held (meaning book.now) (desk domains.old ends.old marks.old settled.old) }
     requires going { Going (meaning book.now) (base_of base.now) (desk domains.old ends.old marks.old settled.old) }
-    requires grouped { All (Grouped (length domains.old)) (base_of base.now) }
+    requires grouped { AllByRecursion (Grouped (length domains.old)) (base_of base.now) }
     requires narrow { length domains.old ≤ 65536 }
     ensures within { (k : Family) → Agrees (meaning book.now) (base_of base.now) k → Inside k (family domains.old) → Inside k (family domains.new) }
     ensures turned { Turned (meaning book.now) (base_of base.now) (desk domains.old ends.old marks.old settled.old) (desk domains.new ends.new marks.new settled.new) result }
@@ -77,7 +77,7 @@ pub fn work<B: RuleBook>(
     requires wired { Wired (meaning book.now) wires.now }
     requires held { Held (meaning book.now) (desk domains.old ends.old marks.old settled.old) }
     requires going { Going (meaning book.now) (base_of base.now) (desk domains.old ends.old marks.old settled.old) }
-    requires grouped { All (Grouped (length domains.old)) (base_of base.now) }
+    requires grouped { AllByRecursion (Grouped (length domains.old)) (base_of base.now) }
     requires narrow { length domains.old ≤ 65536 }
     ensures within { (k : Family) → Agrees (meaning book.now) (base_of base.now) k → Inside k (family domains.old) → Inside k (family domains.new) }
     ensures inside { result ≡ true → Inside (family domains.new) (family domains.old) }

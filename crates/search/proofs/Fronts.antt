@@ -1,6 +1,6 @@
 -- The first words of a branch and of a base, as they are lent on.
 use Rattle.std.proofs.Common.{◌≡◌, ℕ, zero, suc, ◌+◌, ◌-◌, ◌*◌, ◌/◌, ◌<◌, ◌≤◌, ◌≢◌, ◌⊎◌, List, [], ◌∷◌, ◌++◌, length, get_or, take, sym, refl, ap, ◌∙◌, subst, inl, inr, not-suc-le-zero, arith}
-use Rattle.std.specs.List.{AllByRecursion as All}
+use Rattle.std.specs.List.{AllByRecursion}
 use Rattle.std.proofs.lemmas.List.{length-take-le, get_or-take}
 use Rattle.std.proofs.ByRecursion.{All-weaker}
 use Rattle.std.proofs.lemmas.Bool.{cases_eq}
@@ -36,7 +36,7 @@ pub listed_word : (lists ws : List ℕ) (n : ℕ) → Branch lists (branch_of ws
 listed_word lists ws zero b i h = absurd (not-suc-le-zero h)
 listed_word lists ws (suc n) b i h = elim (cases_eq i n) [ inl e ↦ rw e b.0 | inr ne ↦ listed_word lists ws n b.2 i (omega arith) ]
 
-pub all_grouped : (lists : List ℕ) (ns : List (List ℕ)) → All (Nogood lists) ns → All (Grouped (length lists)) ns
+pub all_grouped : (lists : List ℕ) (ns : List (List ℕ)) → AllByRecursion (Nogood lists) ns → AllByRecursion (Grouped (length lists)) ns
 all_grouped lists ns h = All-weaker (Nogood lists) (Grouped (length lists)) (λ n k. All-weaker (Assignment lists) (λ v. v / 64 < length lists) (λ v a. a.group) n k.listed) ns h
 
 -- What remains depends on the nogoods and the decisions alone.

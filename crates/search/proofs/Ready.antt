@@ -1,6 +1,6 @@
 -- What an accepted sitting may rely on.
 use Rattle.std.proofs.Common.{◌≡◌, ℕ, ◌+◌, ◌*◌, ◌<◌, ◌≤◌, Bool, true, ◌&&◌, eqb, leb, List, length, take, None, sym, ap, ◌∙◌, subst, arith}
-use Rattle.std.specs.List.{AllByRecursion as All}
+use Rattle.std.specs.List.{AllByRecursion}
 use Rattle.std.proofs.lemmas.Bool.{and_parts, eqb-true, leb-true}
 use Rattle.rules.specs.Meanings.{Meaning}
 use Rattle.model.specs.Decisions.{reduced, Nogood}
@@ -26,11 +26,11 @@ pub record Ready {O P : Type 0} (book : Meaning) (s : OpenSearch) (lists : List 
   pub plan : length lists ≤ length r.plan
 
 -- The used words of a base that passes its test.
-base_words_lem : (lists ws : List ℕ) → base? lists ws ≡ true → All (Nogood lists) (base_of ws) × (ws ≡ recorded (base_of ws))
+base_words_lem : (lists ws : List ℕ) → base? lists ws ≡ true → AllByRecursion (Nogood lists) (base_of ws) × (ws ≡ recorded (base_of ws))
 base_words_lem lists ws e =
     let b = is_base lists ws e in
     let same : base_of ws ≡ b.0 = ap base_of b.1 ∙ base_recorded b.0 in
-    (subst (All (Nogood lists)) (sym same) b.2, b.1 ∙ ap recorded (sym same))
+    (subst (AllByRecursion (Nogood lists)) (sym same) b.2, b.1 ∙ ap recorded (sym same))
 
 pub ready : {O P : Type 0} (book : Meaning) (s : OpenSearch) (lists : List ℕ) (allowance : ℕ) (r : Lent O P) → sitting_refusal (request s lists book allowance r) ≡ None → Ready book s lists allowance r
 ready book s lists allowance r e =

@@ -1,6 +1,6 @@
 -- What one turn of a sitting does to the numbers of a search, and to the state that they and the words stand for.
 use Rattle.std.specs.Prelude.{◌≡◌, ℕ, suc, ◌+◌, ◌-◌, ◌*◌, ◌<◌, ◌≤◌, ◌≢◌, ◌⊎◌, List, [], ◌∷◌, length, take, drop, Some, slice_index_or, slice_set}
-use Rattle.std.specs.List.{AllByRecursion as All}
+use Rattle.std.specs.List.{AllByRecursion}
 use Rattle.rules.specs.Meanings.{Meaning}
 use Rattle.branching.specs.Channels.{Open}
 use Rattle.branching.specs.Order.{OrderMeaning}
@@ -65,7 +65,7 @@ pub record Fit (lists : List ℕ) (p : Progress) (branch base : List ℕ) : Type
   pub base_in : p.base_used ≤ length base
   pub base_room : length base ≤ 65536
   pub sound : Branch lists (branch_of branch p.branch_len)
-  pub nogoods : All (Nogood lists) (base_of (take p.base_used base))
+  pub nogoods : AllByRecursion (Nogood lists) (base_of (take p.base_used base))
   pub words : take p.base_used base ≡ recorded (base_of (take p.base_used base))
 
 -- The cutoff is reached, and a base of this size has space for the nogoods.

@@ -1,5 +1,5 @@
 use Rattle.std.proofs.Common.{◌≡◌, ℕ, ◌-◌, ◌/◌, ◌^◌, ◌<◌, length, get_or, set, sym, refl, ap, ◌∙◌, subst, arith}
-use Rattle.std.specs.List.{AllByRecursion as All}
+use Rattle.std.specs.List.{AllByRecursion}
 use Rattle.model.specs.Words.{base_of, branch_of}
 use Rattle.model.specs.Remains.{Family, family}
 use Rattle.propagation.specs.Bases.{Grouped}
@@ -25,7 +25,7 @@ resume-requires g c =
       words = c.requires.words;
       free = (c.over-waiting.ensures.empty, c.over-singles.ensures.empty);
       alive = alive_some ls ms c.requires.size c.requires.before.alive;
-      grouped = subst (λ (n : ℕ). All (Grouped n) (base_of c.args.base.now)) (sym c.requires.size) c.requires.grouped;
+      grouped = subst (λ (n : ℕ). AllByRecursion (Grouped n) (base_of c.args.base.now)) (sym c.requires.size) c.requires.grouped;
       agrees = agrees_of ls m (base_of c.args.base.now) (branch_of ws (length ws - 1)) (family ms) c.requires.before.remains.meets;
       group = here;
       within = taken_inside ms (get_or ws (length ws - 1) 0) c.alone-keeps.result here c.alone-keeps.ensures;

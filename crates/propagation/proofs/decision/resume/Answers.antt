@@ -1,5 +1,5 @@
 use Rattle.std.proofs.Common.{◌≡◌, ℕ, ◌^◌, ◌<◌, ◌≤◌, List, length, get_or, set, sym, refl, ap, ◌∙◌, subst, arith}
-use Rattle.std.specs.List.{AllByRecursion as All}
+use Rattle.std.specs.List.{AllByRecursion}
 use Rattle.std.proofs.lemmas.Bool.{true≢false, false≢true}
 use Rattle.std.proofs.ByRecursion.{All-weaker}
 use Rattle.std.proofs.lemmas.List.{length-set, get_or-set_same}
@@ -64,7 +64,7 @@ work-requires g c =
         calm = calm_step m d1 d2 step (agrees_calm m base ms d1.ends c.requires.agrees);
         good = All-weaker (Good d1.masks d1.assignments) (Good d2.masks d2.assignments) (good_step m d1 d2 step) base (agrees_good m base ms d1.assignments c.requires.agrees);
       };
-      grouped = subst (λ (n : ℕ). All (Grouped n) base) size c.requires.grouped;
+      grouped = subst (λ (n : ℕ). AllByRecursion (Grouped n) base) size c.requires.grouped;
       narrow = omega (arith, c.requires.narrow, size);
     }
 

@@ -1,5 +1,5 @@
 use Rattle.std.proofs.Common.{◌≡◌, ℕ, ◌<◌, Bool, true, false, List, length, sym, refl, ap, ◌∙◌, subst, arith}
-use Rattle.std.specs.List.{AllByRecursion as All}
+use Rattle.std.specs.List.{AllByRecursion}
 use Rattle.std.proofs.lemmas.Bool.{true≢false, false≢true}
 use Rattle.propagation.specs.Waiting.{queued, size}
 use Rattle.model.specs.Remains.{Family, family}
@@ -58,7 +58,7 @@ work-requires g c =
       wired = c.requires.wired;
       held = c.heed-all.ensures.held ok;
       going = record { calm = calm_step m d1 d2 (c.heed-all.ensures.step ok) calm; good = c.heed-all.ensures.good ok };
-      grouped = subst (λ (n : ℕ). All (Grouped n) (base_of c.args.base.now)) size c.requires.grouped;
+      grouped = subst (λ (n : ℕ). AllByRecursion (Grouped n) (base_of c.args.base.now)) size c.requires.grouped;
       narrow = omega (arith, c.requires.narrow, size);
     }
 

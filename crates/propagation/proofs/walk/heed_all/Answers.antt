@@ -1,5 +1,5 @@
 use Rattle.std.proofs.Common.{◌≡◌, ℕ, ◌+◌, ◌-◌, ◌/◌, ◌<◌, ◌≤◌, Bool, true, false, List, [], ◌∷◌, ◌++◌, length, get_or, take, drop, sym, refl, ap, ◌∙◌, subst, arith}
-use Rattle.std.specs.List.{AllByRecursion as All}
+use Rattle.std.specs.List.{AllByRecursion}
 use Rattle.std.proofs.lemmas.List.{append-nil}
 use Rattle.std.proofs.ByRecursion.{All-weaker, All-push}
 use Rattle.std.proofs.lemmas.Bool.{true≢false, false≢true}
@@ -74,5 +74,5 @@ returns g c =
       dead = λ e. absurd (true≢false e);
       held = λ _. i.1;
       step = λ _. i.2;
-      good = λ _. subst (λ (x : List (List ℕ)). All (Good c.loop-pos.domains (queued c.loop-pos.settled)) x) (sym e) i.4.2;
+      good = λ _. subst (λ (x : List (List ℕ)). AllByRecursion (Good c.loop-pos.domains (queued c.loop-pos.settled)) x) (sym e) i.4.2;
     }

@@ -1,5 +1,5 @@
 use Rattle.std.proofs.Common.{◌≡◌, ℕ, ◌+◌, ◌-◌, ◌<◌, ◌≤◌, Bool, true, false, List, [], ◌∷◌, ◌++◌, length, sym, refl, ap, ◌∙◌, subst, arith}
-use Rattle.std.specs.List.{AllByRecursion as All}
+use Rattle.std.specs.List.{AllByRecursion}
 use Rattle.std.proofs.ByRecursion.{All-weaker}
 use Rattle.propagation.specs.Waiting.{queued, size}
 use Rattle.model.specs.Remains.{Family, family, Heeds}
@@ -98,7 +98,7 @@ returns-then-revise g c =
     let step = c.revise.ensures.step ok in
     let held = c.revise.ensures.held ok in
     let calm : Calm m ms (e ∷ queued c.take.new.ends) = subst (λ (x : List RuleEnd). Calm m ms x) f.1 c.requires.going.calm in
-    let good : All (Good ms (queued c.pop.new.self)) base = subst (λ (x : List Assignment). All (Good ms x) base) (sym same) c.requires.going.good in
+    let good : AllByRecursion (Good ms (queued c.pop.new.self)) base = subst (λ (x : List Assignment). AllByRecursion (Good ms x) base) (sym same) c.requires.going.good in
     record {
       within = λ k a. c.revise.ensures.within k (a.supported e.rule e.second);
       turned = record {

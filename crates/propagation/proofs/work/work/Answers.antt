@@ -1,5 +1,5 @@
 use Rattle.std.proofs.Common.{◌≡◌, ℕ, List, length, sym, refl, ap, ◌∙◌, subst, arith}
-use Rattle.std.specs.List.{AllByRecursion as All}
+use Rattle.std.specs.List.{AllByRecursion}
 use Rattle.std.proofs.lemmas.Bool.{true≢false, false≢true}
 use Rattle.model.specs.Remains.{Family, family}
 use Rattle.propagation.specs.Supports.{Inside}
@@ -15,7 +15,7 @@ take-turn-requires g c =
       wired = c.requires.wired;
       held = i.0;
       going = i.1;
-      grouped = subst (λ (n : ℕ). All (Grouped n) (base_of c.args.base.now)) size c.requires.grouped;
+      grouped = subst (λ (n : ℕ). AllByRecursion (Grouped n) (base_of c.args.base.now)) size c.requires.grouped;
       narrow = omega (arith, c.requires.narrow);
     }
 

@@ -1,5 +1,5 @@
 use Rattle.std.proofs.Common.{◌≡◌, ℕ, ◌-◌, ◌<◌, ◌≤◌, List, length, get_or, take, sym, refl, ap, ◌∙◌, subst, arith}
-use Rattle.std.specs.List.{AllByRecursion as All}
+use Rattle.std.specs.List.{AllByRecursion}
 use Rattle.model.specs.Masks.{grp}
 use Rattle.model.specs.Decisions.{Decision, word, taken}
 use Rattle.model.specs.Words.{decision, branch_of, base_of}
@@ -38,7 +38,7 @@ propagate-decision-requires g c =
       places = r.ends;
       slots = r.settled;
       words = r.marks;
-      grouped = subst (λ ns. All (Grouped (length lists)) ns) (sym (same_base c.args.base.now p.base_used)) (all_grouped lists _ f.nogoods);
+      grouped = subst (λ ns. AllByRecursion (Grouped (length lists)) ns) (sym (same_base c.args.base.now p.base_used)) (all_grouped lists _ f.nogoods);
       some = omega arith;
       taken = low;
       group = subst (λ (k : ℕ). grp k < length lists) (sym last) (subst (λ (d : Decision). grp (word d) < length lists) (is_taken (get_or ws (n - 1) 0) fr.taken) listed);
@@ -64,7 +64,7 @@ propagate-requires g c =
       slots = r.settled;
       words = r.marks;
       decided = λ i h. let k : i < n = omega arith in subst (λ (w : ℕ). grp (word (decision w)) < length lists) (sym (front_word ws n inside i k)) (listed_word lists ws n f.sound i k).group;
-      grouped = subst (λ ns. All (Grouped (length lists)) ns) (sym (same_base c.args.base.now p.base_used)) (all_grouped lists _ f.nogoods);
+      grouped = subst (λ ns. AllByRecursion (Grouped (length lists)) ns) (sym (same_base c.args.base.now p.base_used)) (all_grouped lists _ f.nogoods);
     }
 
 pub returns-then-decided : goal.returns-then-decided
