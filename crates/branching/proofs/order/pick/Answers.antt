@@ -27,6 +27,6 @@ returns-in-None-channel g c =
     let f = c.in-None-channel.ensures.answer ∙ ap (λ x. o.channel x ms i) c.group.ensures.after in
     let two : Open ms i = subst (Branches ms) (sym e) (g.met.O.Order.lawful.branches h ms) in
     let none = subst (Remains ms i) (sym f) (g.met.O.Order.lawful.remains (o.grouped h ms) ms i) in
-    let fits : get_or ms i 0 < 2 ^ 64 = omega (arith, c.type-inv.domains i) in
+    let fits : get_or ms i 0 < 2 ^ 64 = omega (arith, c.type_inv.domains i) in
     let some = counts_member 64 (get_or ms i 0) fits (omega arith) in
     absurd (none some.0 some.1)
