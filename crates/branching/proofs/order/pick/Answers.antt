@@ -1,6 +1,6 @@
-use Rattle.std.proofs.Common.{◌≡◌, ◌^◌, ◌<◌, get_or, Some, None, sym, ap, ◌∙◌, subst, arith}
+use Rattle.std.proofs.Common.{◌^◌, ◌<◌, get_or, sym, ap, ◌∙◌, subst, arith}
 use Rattle.branching.specs.Channels.{Open}
-use Rattle.branching.specs.Order.{OrderMeaning, Branches, Remains, choice_at, chosen_at, paired}
+use Rattle.branching.specs.Order.{Branches, Remains, choice_at, chosen_at}
 use Rattle.branching.specs.Bits.{counts_member}
 use Rattle.branching.proofs.order.pick.Goals as goal
 
