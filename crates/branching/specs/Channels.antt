@@ -1,5 +1,5 @@
 -- What remains: a word for each group, bit c of it for channel c. Assumes nothing.
-use Rattle.std.specs.Prelude.{ℕ, ◌<◌, ◌≤◌, Bool, List, length, count_ones, nat_le, slice_index}
+use Rattle.std.specs.Prelude.{ℕ, ◌<◌, ◌≤◌, Bool, List, count_ones, nat_le, slice_index}
 use Rattle.rules.specs.Channels.{Has}
 
 -- how many channels the group g keeps: none past the end

@@ -1,5 +1,5 @@
 -- Fewest first. Assumes nothing.
-use Rattle.std.specs.Prelude.{◌≡◌, ℕ, zero, suc, ◌<◌, ◌≤◌, cond, ◌&&◌, List, length, Some, None, Option, MatchOption, nat_lt, slice_index}
+use Rattle.std.specs.Prelude.{ℕ, zero, suc, ◌<◌, ◌≤◌, cond, ◌&&◌, List, length, Some, None, Option, MatchOption, nat_lt, slice_index}
 use Rattle.std.specs.Int.Count.{count_trailing_zeros}
 use Rattle.branching.specs.Channels.{count, Open, open?}
 use Rattle.branching.specs.Order.{OrderMeaning}

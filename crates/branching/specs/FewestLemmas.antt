@@ -1,12 +1,12 @@
 -- What the fewest-first order answers. Assumes nothing.
-use Rattle.std.specs.Prelude.{◌≡◌, ℕ, zero, suc, ◌+◌, ◌^◌, ◌<◌, ◌≤◌, Bool, true, false, cond, ◌&&◌, ◌⊎◌, List, length, Some, None, Option, MatchOption, ◌≢◌, count_ones, nat_lt, slice_index, refl}
+use Rattle.std.specs.Prelude.{◌≡◌, ℕ, zero, suc, ◌+◌, ◌^◌, ◌<◌, ◌≤◌, true, false, ◌&&◌, List, length, Some, None, Option, MatchOption, ◌≢◌, count_ones, nat_lt, slice_index, refl}
 use Rattle.std.proofs.Common.{sym, ap, subst, ◌∙◌, inl, inr, arith, add-one}
 use Rattle.std.proofs.lemmas.Bool.{cases_eq, cases_lt, cond_both, cond-true, cond-false, leb-true, leb-false, lt-leb, le-leb, ltb-true, ltb-false, and_parts, and_cases, and_left, and_right, and_from}
 use Rattle.std.specs.Int.Count.{count_trailing_zeros}
 use Rattle.std.proofs.lemmas.List.{get_or_past}
 use Rattle.rules.specs.Channels.{Has}
 use Rattle.branching.specs.Channels.{Open, count, open?, Lowest}
-use Rattle.branching.specs.Order.{Lawful, Branches, Remains}
+use Rattle.branching.specs.Order.{Lawful, Branches}
 use Rattle.branching.specs.Fewest.{FewestOf, fewest_of, fewest, after, lowest, fewest_first}
 use Rattle.branching.specs.Bits.{trailing_lowest, lowest_unique, below_pow, none_has, ones_zero}
 

@@ -1,7 +1,7 @@
 -- What the last-conflict layer answers. Assumes nothing.
-use Rattle.std.specs.Prelude.{◌≡◌, ℕ, zero, suc, ◌+◌, ◌<◌, ◌≤◌, Bool, true, false, cond, not, ◌||◌, List, [], ◌∷◌, ◌++◌, length, take, drop, set, IfSome, Some, None, Option, ◌==◌, ◌≢◌, count_ones, slice_index, slice_set, refl}
-use Rattle.std.proofs.Common.{sym, ap, ap₂, subst, ◌∙◌, arith, add-one, drop-cons, take-suc-set}
-use Rattle.std.proofs.lemmas.Bool.{cond_both, cond-true, cond-false, leb-true, lt-leb, eq-eqb, ne_eqb, or_left, or_from}
+use Rattle.std.specs.Prelude.{◌≡◌, ℕ, ◌+◌, ◌<◌, ◌≤◌, true, false, ◌||◌, List, [], ◌∷◌, ◌++◌, length, take, drop, IfSome, Some, None, Option, ◌==◌, ◌≢◌, count_ones, slice_index, slice_set}
+use Rattle.std.proofs.Common.{sym, ap, ap₂, ◌∙◌, arith, add-one, drop-cons, take-suc-set}
+use Rattle.std.proofs.lemmas.Bool.{cond_both, cond-true, cond-false, leb-true, lt-leb, eq-eqb, ne_eqb, or_left}
 use Rattle.std.proofs.lemmas.List.{get_or_past}
 use Rattle.branching.specs.Channels.{Open, open?, count}
 use Rattle.branching.specs.Order.{OrderMeaning, Lawful, Branches}

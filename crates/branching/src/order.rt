@@ -31,8 +31,8 @@ pub trait Order {
 
 pub fn pick<O: Order>(order: &mut O, domains: &[u64]) -> Option<(u16, u8)>
     requires { length domains.now ≤ 65536 }
-    ensures answer { result ≡ choice meaning (held order.old) domains.now }
-    ensures after { held order.new ≡ chosen meaning (held order.old) domains.now }
+    ensures answer { result ≡ choice O.meaning (O.held order.old) domains.now }
+    ensures after { O.held order.new ≡ chosen O.meaning (O.held order.old) domains.now }
     ensures good { GoodChoice domains.now result }
 {
     match order.group(domains) {

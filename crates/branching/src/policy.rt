@@ -1,7 +1,7 @@
 // Restart policies by what they answer and hold: geometric and steady.
 ghost use Rattle.std.specs.Prelude.{◌≡◌, ℕ, ◌+◌, ◌/◌, ◌<◌, ◌≤◌};
 ghost use Rattle.branching.specs.Policy.{PolicyMeaning, LawfulPolicy, geometric, steady, clamped};
-ghost use Rattle.std.proofs.Common.{rules, arith};
+ghost use Rattle.std.proofs.Common.{arith};
 
 pub trait RestartPolicy {
     ghost Held: { Type 0 };
@@ -40,7 +40,7 @@ impl RestartPolicy for Geometric {
 
     ghost meaning = { geometric };
 
-    ghost lawful = { first_of (Prim.search rules, Prim.grind (arith, Self.row.coded.inj)) };
+    ghost lawful = { record { positive = λ h. omega arith } };
 
     fn cutoff(&self) -> u32 {
         self.value
@@ -85,7 +85,7 @@ impl RestartPolicy for Steady {
 
     ghost meaning = { steady };
 
-    ghost lawful = { first_of (Prim.search rules, Prim.grind (arith, Self.row.coded.inj)) };
+    ghost lawful = { record { positive = λ h. omega arith } };
 
     fn cutoff(&self) -> u32 {
         self.value

@@ -1,6 +1,6 @@
-use Rattle.std.proofs.Common.{◌≡◌, ◌^◌, ◌<◌, get_or, Some, None, sym, ap, ◌∙◌, subst, arith}
+use Rattle.std.proofs.Common.{◌^◌, ◌<◌, get_or, sym, ap, ◌∙◌, subst, arith}
 use Rattle.branching.specs.Channels.{Open}
-use Rattle.branching.specs.Order.{OrderMeaning, Branches, Remains, choice_at, chosen_at, paired}
+use Rattle.branching.specs.Order.{Branches, Remains, choice_at, chosen_at}
 use Rattle.branching.specs.Bits.{counts_member}
 use Rattle.branching.proofs.order.pick.Goals as goal
 
@@ -27,6 +27,6 @@ returns-in-None-channel g c =
     let f = c.in-None-channel.ensures.answer ∙ ap (λ x. o.channel x ms i) c.group.ensures.after in
     let two : Open ms i = subst (Branches ms) (sym e) (g.met.O.Order.lawful.branches h ms) in
     let none = subst (Remains ms i) (sym f) (g.met.O.Order.lawful.remains (o.grouped h ms) ms i) in
-    let fits : get_or ms i 0 < 2 ^ 64 = omega (arith, c.type-inv.domains i) in
+    let fits : get_or ms i 0 < 2 ^ 64 = omega (arith, c.type_inv.domains i) in
     let some = counts_member 64 (get_or ms i 0) fits (omega arith) in
     absurd (none some.0 some.1)
