@@ -22,12 +22,12 @@ overflow-add-rules c =
 
 pub loop-x-preserved : goal.loop-x-preserved
 loop-x-preserved c =
-    subst (λ (ys : List Item). Counted c.args.src.now (vec_items c.args.out.now) (vec_items c.write-item.new.out) ys
-    (c.loop-x.groups + c.groups-of-groups.result) (c.loop-x.rules + c.rules-of-rules.result))
+    subst (λ (ys : List Item). Counted c.args.src.now (vec_items c.args.out.now) (vec_items c.write_item.new.out) ys
+    (c.loop-x.groups + c.groups_of-groups.result) (c.loop-x.rules + c.rules_of-rules.result))
     (sym (take_more c.args.items.now c.loop-x.x-index (Counts 0 0) c.loop-x-test.true))
     (counted_push c.args.src.now _ (vec_items c.loop-x.out) _ (take c.loop-x.x-index c.args.items.now) (get_or c.args.items.now c.loop-x.x-index (Counts 0 0))
     c.loop-x.groups c.loop-x.rules _ _ c.loop-x.invariant c.in-ok-write-item.ensures
-    (ap (λ n. c.loop-x.groups + n) c.groups-of-groups.ensures.is) (ap (λ n. c.loop-x.rules + n) c.rules-of-rules.ensures.is))
+    (ap (λ n. c.loop-x.groups + n) c.groups_of-groups.ensures.is) (ap (λ n. c.loop-x.rules + n) c.rules_of-rules.ensures.is))
 
 pub returns : goal.returns
 returns c =

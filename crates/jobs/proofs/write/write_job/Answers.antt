@@ -8,7 +8,7 @@ returns-in-err-vet c = record { bytes = search rules; back = round }
 
 pub returns-in-Ok : goal.returns-in-Ok
 returns-in-Ok c = record {
-  bytes = (c.in-ok-vet.ensures, c.in-Ok.ensures ∙ ap (λ t. t ++ job c.args.src.now c.args.items.now) c.new-out.ensures.items);
+  bytes = (c.in_ok-vet.ensures, c.in-Ok.ensures ∙ ap (λ t. t ++ job c.args.src.now c.args.items.now) c.new-out.ensures.items);
   back = round;
 }
 
