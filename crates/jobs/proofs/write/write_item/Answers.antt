@@ -30,5 +30,5 @@ pub returns-in-ok-add-part : goal.returns-in-ok-add-part
 returns-in-ok-add-part c =
     chain_4 _ (3 ∷ []) (bytes 2 c.in-Rows.e.first) (bytes 2 c.in-Rows.e.second) (take 512 (drop c.in-Rows.e.offset c.args.src.now)) _ _ _ _
     c.in-ok-add-byte-5.ensures c.in-ok-add-half-word-5.ensures c.in-ok-add-half-word-6.ensures
-    (c.in-ok-add-part.ensures ∙ ap (λ n. vec_items c.add-half-word-in-Rows-2.new.out ++ take n (drop c.in-Rows.e.offset c.args.src.now)) (cut c.in-Rows.e.offset))
+    (c.in-ok-add-part.ensures ∙ ap (λ n. vec_items c.add_half_word-in-Rows-2.new.out ++ take n (drop c.in-Rows.e.offset c.args.src.now)) (cut c.in-Rows.e.offset))
     ∙ ap (λ (x : Item). vec_items c.args.out.now ++ written c.args.src.now x) (sym c.in-Rows.is)
