@@ -1,5 +1,5 @@
 -- Each rule of a loaded job's book binds.
-use Rattle.std.proofs.Common.{◌≡◌, ℕ, ◌+◌, ◌-◌, ◌<◌, ◌≤◌, min, List, length, get_or, take, refl, ap, ◌∙◌, subst, arith}
+use Rattle.std.proofs.Common.{◌≡◌, ℕ, ◌+◌, ◌<◌, ◌≤◌, min, List, length, get_or, take, refl, ap, ◌∙◌, subst, arith}
 use Rattle.std.proofs.ByRecursion.{All-get_or}
 use Rattle.rules.specs.Meanings.{Meaning, Apart, most}
 use Rattle.rules.proofs.Entries.{gap_books, table_books, joined_books, permits_like}

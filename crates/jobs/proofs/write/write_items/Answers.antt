@@ -8,26 +8,26 @@ use Rattle.jobs.proofs.write.write_items.Goals as goal
 pub loop-x-init : goal.loop-x-init
 loop-x-init c = counted_none _ _
 
-pub overflow-add-groups : goal.overflow-add-groups
-overflow-add-groups c =
+pub overflow_add-groups : goal.overflow_add-groups
+overflow_add-groups c =
     let h = told_below (take c.loop-x.x-index c.args.items.now) in
     let t = length-take c.loop-x.x-index c.args.items.now in
-    omega (arith, c.loop-x.invariant.groups, c.groups-of-groups.ensures.low)
+    omega (arith, c.loop-x.invariant.groups, c.groups_of-groups.ensures.low)
 
-pub overflow-add-rules : goal.overflow-add-rules
-overflow-add-rules c =
+pub overflow_add-rules : goal.overflow_add-rules
+overflow_add-rules c =
     let h = told_below (take c.loop-x.x-index c.args.items.now) in
     let t = length-take c.loop-x.x-index c.args.items.now in
-    omega (arith, c.loop-x.invariant.rules, c.rules-of-rules.ensures.low)
+    omega (arith, c.loop-x.invariant.rules, c.rules_of-rules.ensures.low)
 
 pub loop-x-preserved : goal.loop-x-preserved
 loop-x-preserved c =
-    subst (λ (ys : List Item). Counted c.args.src.now (vec_items c.args.out.now) (vec_items c.write-item.new.out) ys
-    (c.loop-x.groups + c.groups-of-groups.result) (c.loop-x.rules + c.rules-of-rules.result))
+    subst (λ (ys : List Item). Counted c.args.src.now (vec_items c.args.out.now) (vec_items c.write_item.new.out) ys
+    (c.loop-x.groups + c.groups_of-groups.result) (c.loop-x.rules + c.rules_of-rules.result))
     (sym (take_more c.args.items.now c.loop-x.x-index (Counts 0 0) c.loop-x-test.true))
     (counted_push c.args.src.now _ (vec_items c.loop-x.out) _ (take c.loop-x.x-index c.args.items.now) (get_or c.args.items.now c.loop-x.x-index (Counts 0 0))
-    c.loop-x.groups c.loop-x.rules _ _ c.loop-x.invariant c.in-ok-write-item.ensures
-    (ap (λ n. c.loop-x.groups + n) c.groups-of-groups.ensures.is) (ap (λ n. c.loop-x.rules + n) c.rules-of-rules.ensures.is))
+    c.loop-x.groups c.loop-x.rules _ _ c.loop-x.invariant c.in_ok-write_item.ensures
+    (ap (λ n. c.loop-x.groups + n) c.groups_of-groups.ensures.is) (ap (λ n. c.loop-x.rules + n) c.rules_of-rules.ensures.is))
 
 pub returns : goal.returns
 returns c =

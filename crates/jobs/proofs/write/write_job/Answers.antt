@@ -3,12 +3,12 @@ use Rattle.jobs.specs.Writes.{job}
 use Rattle.jobs.proofs.Trips.{round}
 use Rattle.jobs.proofs.write.write_job.Goals as goal
 
-pub returns-in-err-vet : goal.returns-in-err-vet
-returns-in-err-vet c = record { bytes = search rules; back = round }
+pub returns-in_err-vet : goal.returns-in_err-vet
+returns-in_err-vet c = record { bytes = search rules; back = round }
 
 pub returns-in-Ok : goal.returns-in-Ok
 returns-in-Ok c = record {
-  bytes = (c.in-ok-vet.ensures, c.in-Ok.ensures ∙ ap (λ t. t ++ job c.args.src.now c.args.items.now) c.new-out.ensures.items);
+  bytes = (c.in_ok-vet.ensures, c.in-Ok.ensures ∙ ap (λ t. t ++ job c.args.src.now c.args.items.now) c.new-out.ensures.items);
   back = round;
 }
 
