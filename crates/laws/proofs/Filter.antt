@@ -1,18 +1,12 @@
 -- What remains, as masks.
-use Rattle.std.proofs.Common.{◌≡◌, ℕ, zero, suc, ◌+◌, ◌*◌, ◌/◌, ◌%◌, ◌^◌, ◌<◌, ◌≤◌, Bool, true, false, cond, not, ◌&&◌, ◌||◌, eqb, ltb, ◌≢◌, ◌⊎◌, List, [], ◌∷◌, length, get_or, Some, None, Option, sym, refl, ap, ◌∙◌, subst, inl, inr, not-suc-le-zero, arith}
+use Rattle.std.proofs.Common.{◌≡◌, ℕ, zero, suc, ◌+◌, ◌*◌, ◌/◌, ◌%◌, ◌<◌, ◌≤◌, Bool, true, false, cond, eqb, List, [], ◌∷◌, length, get_or, sym, refl, ap, ◌∙◌, subst, inl, inr, not-suc-le-zero, arith}
 use mathlib.Core.Path.{fun_ext}
-use Rattle.std.specs.List.{AllByRecursion}
-use Rattle.std.proofs.lemmas.Bool.{and_parts, and_from, and_cases, and_left, or_cases, or_parts, or_left, or_right, ltb-true, lt-ltb, eqb-true, eq-eqb, eqb-false, ne_eqb, not_from_false, not_from_true, false≢true, both_ways, cases_Bool, cases_eq, cases_lt}
-use Rattle.rules.specs.Channels.{Has}
+use Rattle.std.proofs.lemmas.Bool.{cases_lt}
 use Rattle.branching.specs.Bits.{has_zero, zero_has, half_digit, none_has}
 use Rattle.rules.specs.Channels.{has}
 use Rattle.rules.specs.Plans.{Listed}
-use Rattle.model.specs.Masks.{grp, chan}
-use Rattle.model.specs.Lists.{all, any}
 use Rattle.rules.specs.Meanings.{Meaning, Lawful}
-use Rattle.rules.proofs.Bindings.{binding}
-use Rattle.model.specs.Decisions.{Decision, taken, refused}
-use Rattle.model.specs.Remains.{Family, family, Only, Gone, Obeys, Heeds, Meets, Remains}
+use Rattle.model.specs.Remains.{Family, family}
 use Rattle.model.specs.Moves.{State, Left}
 use Rattle.model.proofs.Tests.{refuted}
 use Rattle.laws.specs.Sittings.{Leaves}

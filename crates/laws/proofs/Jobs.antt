@@ -1,7 +1,6 @@
 -- The small jobs.
-use Rattle.std.proofs.Common.{◌≡◌, ℕ, zero, suc, ◌<◌, ◌≤◌, Bool, true, false, cond, not, ◌&&◌, eqb, ltb, leb, ◌≢◌, List, [], ◌∷◌, length, Some, None, Option, sym, refl, ap, ◌∙◌, subst, arith, lit<, lit≤}
+use Rattle.std.proofs.Common.{ℕ, List, [], ◌∷◌, length, None, refl}
 use lib.Count.{ones, ones_in, count_trailing_zeros}
-use Rattle.std.proofs.lemmas.Bool.{and_parts, ltb-true, eqb-false, false≢true, cases_Bool}
 use Rattle.branching.specs.Fewest.{fewest_first}
 use Rattle.branching.specs.Layer.{last_conflict}
 use Rattle.branching.specs.Policy.{geometric, steady}
@@ -11,7 +10,7 @@ use Rattle.rules.specs.Gaps.{gaps, gaps_lawful}
 use Rattle.rules.specs.declared.gap.GapEntry.{GapEntry}
 use Rattle.model.specs.Moves.{start}
 use Rattle.laws.specs.Orders.{IsLawfulOrder, Policy, cutoffs}
-use Rattle.laws.specs.Sittings.{Search, begun, Verdict, none, plan, Sits}
+use Rattle.laws.specs.Sittings.{Search, begun, Verdict, none, Sits}
 use Rattle.laws.specs.Jobs.{gap_rule, fewest, last_conflict_order, Worked, Clash, ClashLater, Three, Jobs}
 use Rattle.laws.proofs.Orders.{behaves}
 use Rattle.laws.proofs.Filter.{remaining_leaves}

@@ -1,5 +1,5 @@
 -- Two lists of masks that remain are one.
-use Rattle.std.proofs.Common.{◌≡◌, ℕ, zero, suc, ◌+◌, ◌/◌, ◌%◌, ◌^◌, ◌<◌, ◌≤◌, true, ◌⊎◌, List, [], ◌∷◌, length, get_or, sym, refl, ap, ◌∙◌, subst, inl, inr, add_comm, pow-suc, arith, ext_get_or}
+use Rattle.std.proofs.Common.{◌≡◌, ℕ, zero, suc, ◌+◌, ◌/◌, ◌%◌, ◌^◌, ◌<◌, true, ◌⊎◌, List, length, get_or, sym, ◌∙◌, inl, inr, add_comm, pow-suc, arith, ext_get_or}
 use Rattle.std.proofs.lemmas.Bool.{eqb-true, eq-eqb, cases_eq}
 use Rattle.rules.specs.Channels.{Has}
 use Rattle.branching.specs.Bits.{has_zero, zero_has, has_suc, suc_has, below_pow}

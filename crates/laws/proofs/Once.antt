@@ -1,12 +1,12 @@
 -- A sitting comes to one verdict and one search.
-use Rattle.std.proofs.Common.{◌≡◌, ℕ, zero, suc, ◌<◌, true, false, ◌≢◌, List, [], ◌∷◌, length, get_or, Some, Option, sym, refl, ap, ◌∙◌, subst, arith, ext_get_or}
+use Rattle.std.proofs.Common.{◌≡◌, ℕ, ◌<◌, List, [], ◌∷◌, length, get_or, Some, Option, sym, refl, ap, ◌∙◌, subst, arith, ext_get_or}
 use Rattle.std.proofs.lemmas.Bool.{both_ways}
 use Rattle.rules.specs.Meanings.{Meaning}
 use Rattle.model.specs.Decisions.{takens}
 use Rattle.model.specs.Remains.{family, Dead, Alive, Wide, Single}
 use Rattle.model.specs.Moves.{State}
 use Rattle.laws.specs.Orders.{asked, Order, Policy}
-use Rattle.laws.specs.Sittings.{Search, Verdict, none, plan, unsettled, after_decide, Leaves, Going, dead, wide, Turn, close, restart, decide, Sits, ends_none, ends_plan, spent, moves_on}
+use Rattle.laws.specs.Sittings.{Search, Verdict, plan, after_decide, Leaves, Going, dead, wide, Turn, close, restart, decide, Sits, ends_none, ends_plan, spent, moves_on}
 use Rattle.laws.proofs.Masks.{leaves_one}
 
 same_some : (o : Option ℕ) (a b : ℕ) → o ≡ Some a → o ≡ Some b → a ≡ b

@@ -1,5 +1,4 @@
 -- What an order or a policy of any make answers is lawful, whatever it holds.
-use Rattle.std.proofs.Common.{ℕ, List}
 use Rattle.branching.specs.Order.{OrderMeaning, Lawful}
 use Rattle.branching.specs.Policy.{PolicyMeaning, LawfulPolicy}
 use Rattle.laws.specs.Orders.{IsLawfulOrder, IsLawfulPolicy, held_after, behaviour, moved_on, cutoffs}

@@ -1,12 +1,12 @@
 -- What a call that is not refused has passed.
-use Rattle.std.proofs.Common.{◌≡◌, ℕ, zero, suc, ◌+◌, ◌-◌, ◌<◌, ◌≤◌, Bool, true, false, ◌&&◌, leb, ◌≢◌, List, [], ◌∷◌, ◌++◌, length, get_or, take, Some, None, sym, refl, ap, ◌∙◌, subst, arith, length-append}
+use Rattle.std.proofs.Common.{◌≡◌, ℕ, zero, suc, ◌+◌, ◌<◌, ◌≤◌, Bool, true, false, ◌&&◌, leb, ◌≢◌, List, [], ◌∷◌, ◌++◌, length, get_or, take, Some, None, sym, refl, ap, ◌∙◌, subst, arith, length-append}
 use Rattle.std.proofs.lemmas.List.{length-take-le}
 use Rattle.std.specs.List.{AllByRecursion}
 use Rattle.std.proofs.lemmas.Bool.{and_parts, eqb-true, leb-true}
 use Rattle.model.specs.Words.{branch_of, recorded}
 use Rattle.model.specs.Decisions.{reduced}
 use Rattle.model.specs.Moves.{State, nogoods}
-use Rattle.laws.specs.Requests.{Request, Refusal, unless, first_of, empty_at, empty_from, in_range, book_agrees, search_agrees, base_fits, branch_fits, work_fits, is_base_sound, has_space, open_checks, sitting_checks, restart_checks, open_refusal, sitting_refusal, restart_refusal}
+use Rattle.laws.specs.Requests.{Request, Refusal, unless, first_of, empty_from, in_range, book_agrees, search_agrees, base_fits, branch_fits, work_fits, is_base_sound, has_space, open_checks, sitting_checks, restart_checks, open_refusal, sitting_refusal, restart_refusal}
 use Rattle.model.specs.Words.{base_of}
 use Rattle.model.proofs.Bases.{base_recorded}
 use Rattle.laws.specs.Runs.{Found, standing}

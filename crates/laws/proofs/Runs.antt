@@ -1,13 +1,10 @@
 -- The law of runs.
-use Rattle.std.proofs.Common.{◌≡◌, ℕ, zero, suc, ◌+◌, ◌*◌, ◌<◌, ◌≤◌, true, ◌⊎◌, List, [], ◌∷◌, ◌++◌, length, take, Some, None, sym, refl, ap, ◌∙◌, subst, inl, inr, append_assoc, le_trans, arith}
+use Rattle.std.proofs.Common.{◌≡◌, ℕ, ◌+◌, ◌*◌, ◌<◌, ◌≤◌, true, ◌⊎◌, List, [], ◌∷◌, ◌++◌, length, Some, None, sym, refl, ap, ◌∙◌, subst, inl, inr, append_assoc, le_trans, arith}
 use Rattle.std.specs.List.{AllByRecursion}
 use Rattle.std.proofs.ByRecursion.{All-weaker}
 use Rattle.rules.specs.Meanings.{Meaning, Lawful}
 use Rattle.rules.specs.Plans.{Plan}
-use Rattle.model.specs.Choices.{shut}
-use Rattle.model.specs.Moves.{State, start, nogoods, restarting, Move, close as may_close, restart as may_restart, decide as may_decide, called, Reach, here, more}
-use Rattle.model.specs.Words.{branch_of, recorded}
-use Rattle.model.specs.Decisions.{Branch, Nogood}
+use Rattle.model.specs.Moves.{State, start, restarting, Move, close as may_close, restart as may_restart, decide as may_decide, called, Reach, here, more}
 use Rattle.model.proofs.Formed.{whole_run}
 use Rattle.model.proofs.Shut.{move_keeps}
 use Rattle.model.proofs.Sound.{sound_run, none_run, plan_run}
@@ -19,7 +16,6 @@ use Rattle.laws.specs.Requests.{Request, is_branch_sound, is_base_sound, sitting
 use Rattle.laws.specs.Runs.{Run, opened, sat, restarted, sitting_refused, restart_refused, history, Carried, Found, WithBook}
 use Rattle.laws.specs.Law.{Kept, KeptThroughout, Good, Law, Continues}
 use Rattle.laws.proofs.Sittings.{turn_move, sits_keeps, sits_none, sits_plan}
-use Rattle.laws.specs.Words.{branch?, base?}
 use Rattle.laws.proofs.Words.{branch_is, base_is}
 use Rattle.laws.proofs.Spare.{Spare, spare_move, spare_few}
 use Rattle.laws.proofs.Refusals.{open_agrees, open_some, restart_since, restart_fits}

@@ -1,5 +1,5 @@
 -- A sitting is a run of the theory's moves, and an open one has made just the moves allowed.
-use Rattle.std.proofs.Common.{◌≡◌, ℕ, zero, suc, ◌+◌, ◌*◌, ◌/◌, ◌%◌, ◌<◌, ◌≤◌, true, ◌≢◌, ◌⊎◌, List, [], ◌∷◌, length, get_or, Some, sym, refl, ap, ◌∙◌, subst, inl, inr, arith}
+use Rattle.std.proofs.Common.{◌≡◌, ℕ, suc, ◌+◌, ◌*◌, ◌<◌, ◌≢◌, List, ◌∷◌, length, get_or, Some, refl, ◌∙◌, subst, inl, inr, arith}
 use Rattle.std.proofs.lemmas.Bool.{cases_eq}
 use Rattle.rules.specs.Channels.{Has}
 use Rattle.branching.specs.Channels.{Open}
@@ -7,11 +7,11 @@ use Rattle.branching.specs.Order.{Branches, Remains}
 use Rattle.branching.specs.Bits.{counts_two, below_pow}
 use Rattle.model.specs.Masks.{grp, chan}
 use Rattle.rules.specs.Meanings.{Meaning}
-use Rattle.model.specs.Remains.{Family, family, Single, Dead, Alive}
+use Rattle.model.specs.Remains.{Family, family, Single, Alive}
 use Rattle.model.specs.Moves.{State, deciding, Left, EndedNone, Move, close as may_close, restart as may_restart, decide as may_decide, Reach, here, more}
 use Rattle.laws.specs.Orders.{asked, Order, IsLawfulOrder, Policy, IsLawfulPolicy}
 use Rattle.laws.specs.Sittings.{Search, Verdict, none, plan, unsettled, Leaves, Turn, close, restart, decide, Sits, ends_none, ends_plan, spent, moves_on}
-use Rattle.laws.proofs.Masks.{has-Has, Has-has}
+use Rattle.laws.proofs.Masks.{Has-has}
 
 group_of : (g c : ℕ) → c < 64 → grp (64 * g + c) ≡ g
 group_of g c h = omega arith

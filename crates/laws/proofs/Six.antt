@@ -1,16 +1,15 @@
 -- The run of six calls.
-use Rattle.std.proofs.Common.{◌≡◌, ℕ, zero, suc, ◌<◌, ◌≤◌, List, [], ◌∷◌, length, replicate, refl, arith}
+use Rattle.std.proofs.Common.{ℕ, List, [], ◌∷◌, replicate, refl, arith}
 use lib.Count.{ones, ones_in, count_trailing_zeros}
 use Rattle.branching.specs.Policy.{geometric}
 use Rattle.rules.specs.Meanings.{Meaning}
 use Rattle.rules.specs.Gaps.{gaps, gaps_lawful}
 use Rattle.rules.specs.declared.gap.GapEntry.{GapEntry}
-use Rattle.model.specs.Decisions.{taken, refused}
 use Rattle.model.specs.Moves.{State, start, closing, deciding, restarting}
 use Rattle.laws.specs.Orders.{Policy, IsLawfulPolicy, cutoffs}
-use Rattle.laws.specs.Sittings.{Search, begun, Verdict, none, plan, unsettled, Sits}
+use Rattle.laws.specs.Sittings.{Search, begun, Verdict, unsettled, Sits}
 use Rattle.laws.specs.Requests.{Request}
-use Rattle.laws.specs.Runs.{Carried, Found, WithBook, Run, opened, sat, restarted, restart_refused}
+use Rattle.laws.specs.Runs.{Run, opened, sat, restarted, restart_refused}
 use Rattle.laws.specs.Jobs.{gap_rule, fewest, SixCalls}
 use Rattle.laws.proofs.Jobs.{fewest_behaves}
 use Rattle.laws.proofs.Total.{sits_exists}

@@ -1,10 +1,9 @@
 -- The branch of a run never has all assignments there are: beside the last decided channel its group kept another.
-use Rattle.std.proofs.Common.{◌≡◌, ℕ, zero, suc, ◌+◌, ◌*◌, ◌<◌, ◌≤◌, true, ◌≢◌, ◌⊎◌, List, [], ◌∷◌, length, sym, refl, ap, ◌∙◌, subst, inl, inr, arith}
+use Rattle.std.proofs.Common.{◌≡◌, ℕ, suc, ◌+◌, ◌*◌, ◌<◌, ◌≤◌, ◌≢◌, ◌⊎◌, List, [], ◌∷◌, length, sym, refl, ap, ◌∙◌, inl, inr, arith}
 use Rattle.std.specs.List.{AllByRecursion}
 use Rattle.model.specs.Masks.{grp, chan}
 use Rattle.rules.specs.Meanings.{Meaning}
-use Rattle.model.specs.Decisions.{Decision, taken, refused, word, takens, closed, Free, Assignment, Branch}
-use Rattle.model.specs.Remains.{Family}
+use Rattle.model.specs.Decisions.{Decision, taken, refused, word, closed, Free, Assignment, Branch}
 use Rattle.model.specs.Moves.{State, Move, close, restart, decide, called}
 use Rattle.model.proofs.Formed.{free}
 use Rattle.model.proofs.Marked.{branch_few}

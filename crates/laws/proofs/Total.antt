@@ -1,9 +1,8 @@
 -- Every sitting comes to an end.
-use Rattle.std.proofs.Common.{◌≡◌, ℕ, zero, suc, ◌+◌, ◌*◌, ◌^◌, ◌<◌, ◌≤◌, Bool, true, false, ◌&&◌, eqb, leb, ◌≢◌, ◌⊎◌, List, [], ◌∷◌, map, length, get_or, Some, None, Option, sym, refl, ap, ◌∙◌, subst, inl, inr, arith}
+use Rattle.std.proofs.Common.{◌≡◌, ℕ, zero, suc, ◌<◌, ◌≤◌, Bool, true, false, ◌&&◌, eqb, leb, List, [], ◌∷◌, map, length, get_or, Some, None, Option, sym, refl, ◌∙◌, subst, inl, inr, arith}
 use lib.ListN.{get_or-map, length-map}
-use Rattle.std.proofs.lemmas.Bool.{and_parts, and_from, eqb-true, eqb-false, leb-true, le-leb, both_ways, cases_eq, cases_order}
+use Rattle.std.proofs.lemmas.Bool.{and_parts, and_from, eqb-true, eqb-false, leb-true, le-leb, both_ways, cases_order}
 use lib.Count.{ones}
-use Rattle.rules.specs.Channels.{Has}
 use Rattle.branching.specs.Channels.{Open}
 use Rattle.branching.specs.Order.{Branches, Remains}
 use Rattle.branching.specs.Bits.{counts_two, two_count, trailing_lowest, below_pow}
@@ -11,9 +10,9 @@ use Rattle.rules.specs.Channels.{has}
 use Rattle.rules.specs.Meanings.{Meaning, Lawful}
 use Rattle.model.specs.Decisions.{takens}
 use Rattle.model.specs.Words.{recorded}
-use Rattle.model.specs.Remains.{Family, family, Dead, Alive, Wide, Single}
+use Rattle.model.specs.Remains.{family, Dead, Alive, Wide, Single}
 use Rattle.model.specs.Moves.{State, nogoods}
-use Rattle.laws.specs.Orders.{asked, Order, IsLawfulOrder, Policy, IsLawfulPolicy}
+use Rattle.laws.specs.Orders.{asked, Order, IsLawfulOrder, Policy}
 use Rattle.laws.specs.Sittings.{Search, Verdict, none, plan, unsettled, Leaves, Due, Turn, close, restart, decide, Sits, ends_none, ends_plan, spent, moves_on, after_close, after_restart, after_decide}
 use Rattle.laws.proofs.Masks.{has-Has, Has-has}
 use Rattle.model.proofs.Largest.{find, find_some, find_none}

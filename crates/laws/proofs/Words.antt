@@ -1,10 +1,9 @@
 -- The tests of a branch and of a base say what they should.
-use Rattle.std.proofs.Common.{◌≡◌, ℕ, zero, suc, ◌+◌, ◌%◌, ◌<◌, ◌≤◌, Bool, true, false, not, ◌&&◌, eqb, ltb, ◌≢◌, List, [], ◌∷◌, ◌++◌, length, get_or, take, drop, Some, None, Option, sym, refl, ap, ◌∙◌, subst, arith}
+use Rattle.std.proofs.Common.{◌≡◌, ℕ, zero, suc, ◌<◌, ◌≤◌, Bool, true, false, not, ◌&&◌, eqb, ltb, ◌≢◌, List, [], ◌∷◌, ◌++◌, length, get_or, take, drop, Some, None, Option, sym, refl, ap, ◌∙◌, subst, arith}
 use Rattle.std.specs.List.{AllByRecursion}
 use Rattle.std.proofs.ByRecursion.{All-weaker}
-use Rattle.std.proofs.lemmas.Bool.{and_parts, and_from, and_right, ltb-true, lt-ltb, eqb-true, eq-eqb, eqb-false, ne_eqb, not_from_false, false≢true}
+use Rattle.std.proofs.lemmas.Bool.{and_parts, and_from, and_right, ltb-true, lt-ltb, eqb-false, ne_eqb, not_from_false, false≢true}
 use Rattle.rules.specs.Channels.{has}
-use Rattle.rules.specs.Plans.{Listed}
 use Rattle.model.specs.Masks.{grp, chan}
 use Rattle.model.specs.Lists.{all}
 use Rattle.model.specs.Decisions.{Decision, taken, refused, word, Free, Assignment, Branch, Apart, Nogood}

@@ -1,5 +1,5 @@
 -- Small jobs with gap rules, worked by fewest first.
-use Rattle.std.specs.Prelude.{◌≡◌, ℕ, zero, suc, ◌+◌, ◌-◌, Bool, true, false, cond, not, ◌&&◌, eqb, ltb, leb, List, [], ◌∷◌, length, Some, None, Option}
+use Rattle.std.specs.Prelude.{◌≡◌, ℕ, true, false, List, [], ◌∷◌, length, None}
 use Rattle.branching.specs.Fewest.{fewest_first}
 use Rattle.branching.specs.Layer.{last_conflict}
 use Rattle.branching.specs.Policy.{geometric, steady}

@@ -1,5 +1,5 @@
 -- Runs of calls on one search.
-use Rattle.std.specs.Prelude.{◌≡◌, ℕ, suc, List, [], ◌∷◌, length, take, Some, None, Option}
+use Rattle.std.specs.Prelude.{◌≡◌, ℕ, suc, List, [], ◌∷◌, length, take, Some, None}
 use Rattle.rules.specs.Meanings.{Meaning}
 use Rattle.model.specs.Words.{branch_of, recorded, base_of}
 use Rattle.model.specs.Moves.{State, start, restarting}

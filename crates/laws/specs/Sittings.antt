@@ -1,5 +1,5 @@
 -- One sitting, move by move.
-use Rattle.std.specs.Prelude.{◌≡◌, ℕ, zero, suc, ◌+◌, ◌*◌, ◌≤◌, ◌≢◌, List, [], ◌∷◌, length, Some}
+use Rattle.std.specs.Prelude.{◌≡◌, ℕ, suc, ◌+◌, ◌*◌, ◌≤◌, ◌≢◌, List, [], ◌∷◌, length, Some}
 use Rattle.model.specs.Masks.{grp}
 use Rattle.rules.specs.Meanings.{Meaning}
 use Rattle.model.specs.Decisions.{Decision, taken, refused, takens}
