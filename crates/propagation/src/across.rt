@@ -18,14 +18,14 @@ pub fn queue_across<B: RuleBook>(
     ends: &mut Ring<RuleEnd>,
     marks: &mut [u32],
 )
-    requires wired { Wired (meaning book.now) wires.now }
-    requires group { g < (meaning book.now).groups }
-    requires line { Line (meaning book.now).count (queued ends.old) marks.old }
-    requires space { Space (meaning book.now).count (size ends.old) marks.old }
+    requires wired { Wired (B.meaning book.now) wires.now }
+    requires group { g < (B.meaning book.now).groups }
+    requires line { Line (B.meaning book.now).count (queued ends.old) marks.old }
+    requires space { Space (B.meaning book.now).count (size ends.old) marks.old }
     ensures sized { size ends.new ≡ size ends.old }
-    ensures line { Line (meaning book.now).count (queued ends.new) marks.new }
+    ensures line { Line (B.meaning book.now).count (queued ends.new) marks.new }
     ensures still { Still (queued ends.old) (queued ends.new) }
-    ensures across { (i : ℕ) → Across (meaning book.now) g i (queued ends.new) }
+    ensures across { (i : ℕ) → Across (B.meaning book.now) g i (queued ends.new) }
 {
     let rules = book.count();
     let mut next = wires[8192 + g as usize];

@@ -33,24 +33,24 @@ pub fn resume<B: RuleBook>(
     marks: &mut [u32],
     settled: &mut Ring<Assignment>,
 ) -> bool
-    requires wired { Wired (meaning book.now) wires.now }
-    requires groups { length domains.old ≡ (meaning book.now).groups }
+    requires wired { Wired (B.meaning book.now) wires.now }
+    requires groups { length domains.old ≡ (B.meaning book.now).groups }
     requires narrow { length domains.old ≤ 65536 }
-    requires rules { (meaning book.now).count ≤ 4096 }
-    requires places { 2 * (meaning book.now).count ≤ size ends.old }
+    requires rules { (B.meaning book.now).count ≤ 4096 }
+    requires places { 2 * (B.meaning book.now).count ≤ size ends.old }
     requires slots { length domains.old ≤ size settled.old }
     requires words { length marks.old ≡ 256 }
     requires free { (queued ends.old ≡ []) × (queued settled.old ≡ []) }
     requires alive { (x : ℕ) → x < length domains.old → slice_index domains.old x ≢ 0 }
     requires grouped { AllByRecursion (Grouped (length domains.old)) (base_of base.now) }
-    requires agrees { Agrees (meaning book.now) (base_of base.now) (family domains.old) }
+    requires agrees { Agrees (B.meaning book.now) (base_of base.now) (family domains.old) }
     requires group { g < length domains.old }
     requires within { (j : ℕ) → has keeps j ≡ true → has (slice_index domains.old g) j ≡ true }
-    ensures within { (k : Family) → Agrees (meaning book.now) (base_of base.now) k → Inside k (family (slice_set domains.old g keeps)) → Inside k (family domains.new) }
+    ensures within { (k : Family) → Agrees (B.meaning book.now) (base_of base.now) k → Inside k (family (slice_set domains.old g keeps)) → Inside k (family domains.new) }
     ensures inside { result ≡ true → Inside (family domains.new) (family (slice_set domains.old g keeps)) }
     ensures dead { result ≡ false → Emptied domains.new }
     ensures alive { result ≡ true → (x : ℕ) → x < length domains.new → slice_index domains.new x ≢ 0 }
-    ensures agrees { result ≡ true → Agrees (meaning book.now) (base_of base.now) (family domains.new) }
+    ensures agrees { result ≡ true → Agrees (B.meaning book.now) (base_of base.now) (family domains.new) }
 {
     clear(marks);
     if !shrink(book, wires, g, keeps, domains, ends, marks, settled) {
@@ -71,21 +71,21 @@ pub fn filter_decision<B: RuleBook>(
     ends: &mut [RuleEnd],
     settled: &mut [Assignment],
 ) -> bool
-    requires wired { Wired (meaning book.now) wires.now }
-    requires groups { length lists.now ≡ (meaning book.now).groups }
+    requires wired { Wired (B.meaning book.now) wires.now }
+    requires groups { length lists.now ≡ (B.meaning book.now).groups }
     requires size { length domains.old ≡ length lists.now }
     requires narrow { length lists.now ≤ 65536 }
-    requires rules { (meaning book.now).count ≤ 4096 }
-    requires places { 2 * (meaning book.now).count ≤ length ends.old }
+    requires rules { (B.meaning book.now).count ≤ 4096 }
+    requires places { 2 * (B.meaning book.now).count ≤ length ends.old }
     requires slots { length lists.now ≤ length settled.old }
     requires words { length marks.old ≡ 256 }
     requires grouped { AllByRecursion (Grouped (length lists.now)) (base_of base.now) }
     requires some { 0 < length branch.now }
     requires taken { slice_index branch.now (length branch.now - 1) < 65536 }
     requires group { grp (slice_index branch.now (length branch.now - 1)) < length lists.now }
-    requires before { Lives lists.now (meaning book.now) (base_of base.now) (branch_of branch.now (length branch.now - 1)) domains.old }
-    ensures dead { result ≡ false → Dies lists.now (meaning book.now) (base_of base.now) (branch_of branch.now (length branch.now)) }
-    ensures lives { result ≡ true → Lives lists.now (meaning book.now) (base_of base.now) (branch_of branch.now (length branch.now)) domains.new }
+    requires before { Lives lists.now (B.meaning book.now) (base_of base.now) (branch_of branch.now (length branch.now - 1)) domains.old }
+    ensures dead { result ≡ false → Dies lists.now (B.meaning book.now) (base_of base.now) (branch_of branch.now (length branch.now)) }
+    ensures lives { result ≡ true → Lives lists.now (B.meaning book.now) (base_of base.now) (branch_of branch.now (length branch.now)) domains.new }
 {
     let word = branch[branch.len() - 1];
     let g = (word / 64) as u16;
@@ -117,23 +117,23 @@ pub fn propagate_decision<B: RuleBook>(
     ends: &mut [RuleEnd],
     settled: &mut [Assignment],
 ) -> bool
-    requires groups { length lists.now ≡ (meaning book.now).groups }
+    requires groups { length lists.now ≡ (B.meaning book.now).groups }
     requires size { length lists.now ≤ length domains.old }
     requires narrow { length lists.now ≤ 200 }
-    requires rules { (meaning book.now).count ≤ 4096 }
-    requires places { 2 * (meaning book.now).count ≤ length ends.old }
+    requires rules { (B.meaning book.now).count ≤ 4096 }
+    requires places { 2 * (B.meaning book.now).count ≤ length ends.old }
     requires slots { length lists.now ≤ length settled.old }
     requires words { 256 ≤ length marks.old }
     requires grouped { AllByRecursion (Grouped (length lists.now)) (base_of base.now) }
     requires some { 0 < length branch.now }
     requires taken { slice_index branch.now (length branch.now - 1) < 65536 }
     requires group { grp (slice_index branch.now (length branch.now - 1)) < length lists.now }
-    requires before { Lives lists.now (meaning book.now) (base_of base.now) (branch_of branch.now (length branch.now - 1)) (take (length lists.now) domains.old) }
-    ensures dead { result ≡ false → Dies lists.now (meaning book.now) (base_of base.now) (branch_of branch.now (length branch.now)) }
-    ensures lives { result ≡ true → Lives lists.now (meaning book.now) (base_of base.now) (branch_of branch.now (length branch.now)) (take (length lists.now) domains.new) }
+    requires before { Lives lists.now (B.meaning book.now) (base_of base.now) (branch_of branch.now (length branch.now - 1)) (take (length lists.now) domains.old) }
+    ensures dead { result ≡ false → Dies lists.now (B.meaning book.now) (base_of base.now) (branch_of branch.now (length branch.now)) }
+    ensures lives { result ≡ true → Lives lists.now (B.meaning book.now) (base_of base.now) (branch_of branch.now (length branch.now)) (take (length lists.now) domains.new) }
     ensures beyond { drop (length lists.now) domains.new ≡ drop (length lists.now) domains.old }
     ensures unmarked { drop 256 marks.new ≡ drop 256 marks.old }
-    ensures unqueued { drop (2 * (meaning book.now).count) ends.new ≡ drop (2 * (meaning book.now).count) ends.old }
+    ensures unqueued { drop (2 * (B.meaning book.now).count) ends.new ≡ drop (2 * (B.meaning book.now).count) ends.old }
     ensures unsettled { drop (length lists.now) settled.new ≡ drop (length lists.now) settled.old }
 {
     let n = lists.len();

@@ -47,21 +47,21 @@ pub fn run<B: RuleBook>(
     marks: &mut [u32],
     settled: &mut Ring<Assignment>,
 ) -> bool
-    requires wired { Wired (meaning book.now) wires.now }
-    requires groups { length domains.old ≡ (meaning book.now).groups }
+    requires wired { Wired (B.meaning book.now) wires.now }
+    requires groups { length domains.old ≡ (B.meaning book.now).groups }
     requires narrow { length domains.old ≤ 65536 }
-    requires rules { (meaning book.now).count ≤ 4096 }
-    requires places { 2 * (meaning book.now).count ≤ size ends.old }
+    requires rules { (B.meaning book.now).count ≤ 4096 }
+    requires places { 2 * (B.meaning book.now).count ≤ size ends.old }
     requires slots { length domains.old ≤ size settled.old }
     requires words { length marks.old ≡ 256 }
     requires free { (queued ends.old ≡ []) × (queued settled.old ≡ []) }
     requires alive { (g : ℕ) → g < length domains.old → slice_index domains.old g ≢ 0 }
     requires grouped { AllByRecursion (Grouped (length domains.old)) (base_of base.now) }
-    ensures within { (k : Family) → Agrees (meaning book.now) (base_of base.now) k → Inside k (family domains.old) → Inside k (family domains.new) }
+    ensures within { (k : Family) → Agrees (B.meaning book.now) (base_of base.now) k → Inside k (family domains.old) → Inside k (family domains.new) }
     ensures inside { result ≡ true → Inside (family domains.new) (family domains.old) }
     ensures dead { result ≡ false → Emptied domains.new }
     ensures alive { result ≡ true → (g : ℕ) → g < length domains.new → slice_index domains.new g ≢ 0 }
-    ensures agrees { result ≡ true → Agrees (meaning book.now) (base_of base.now) (family domains.new) }
+    ensures agrees { result ≡ true → Agrees (B.meaning book.now) (base_of base.now) (family domains.new) }
 {
     clear(marks);
     add_all(ends, marks, book.count());
@@ -83,18 +83,18 @@ pub fn filter<B: RuleBook>(
     ends: &mut [RuleEnd],
     settled: &mut [Assignment],
 ) -> bool
-    requires wired { Wired (meaning book.now) wires.now }
-    requires groups { length lists.now ≡ (meaning book.now).groups }
+    requires wired { Wired (B.meaning book.now) wires.now }
+    requires groups { length lists.now ≡ (B.meaning book.now).groups }
     requires size { length domains.old ≡ length lists.now }
     requires narrow { length lists.now ≤ 65536 }
-    requires rules { (meaning book.now).count ≤ 4096 }
-    requires places { 2 * (meaning book.now).count ≤ length ends.old }
+    requires rules { (B.meaning book.now).count ≤ 4096 }
+    requires places { 2 * (B.meaning book.now).count ≤ length ends.old }
     requires slots { length lists.now ≤ length settled.old }
     requires words { length marks.old ≡ 256 }
     requires decided { (i : ℕ) → i < length branch.now → grp (assigned (decision (slice_index branch.now i))) < length lists.now }
     requires grouped { AllByRecursion (Grouped (length lists.now)) (base_of base.now) }
-    ensures dead { result ≡ false → Dies lists.now (meaning book.now) (base_of base.now) (branch_of branch.now (length branch.now)) }
-    ensures lives { result ≡ true → Lives lists.now (meaning book.now) (base_of base.now) (branch_of branch.now (length branch.now)) domains.new }
+    ensures dead { result ≡ false → Dies lists.now (B.meaning book.now) (base_of base.now) (branch_of branch.now (length branch.now)) }
+    ensures lives { result ≡ true → Lives lists.now (B.meaning book.now) (base_of base.now) (branch_of branch.now (length branch.now)) domains.new }
 {
     if !prepare(lists, branch, domains) {
         return false;
@@ -124,20 +124,20 @@ pub fn propagate<B: RuleBook>(
     ends: &mut [RuleEnd],
     settled: &mut [Assignment],
 ) -> bool
-    requires groups { length lists.now ≡ (meaning book.now).groups }
+    requires groups { length lists.now ≡ (B.meaning book.now).groups }
     requires size { length lists.now ≤ length domains.old }
     requires narrow { length lists.now ≤ 200 }
-    requires rules { (meaning book.now).count ≤ 4096 }
-    requires places { 2 * (meaning book.now).count ≤ length ends.old }
+    requires rules { (B.meaning book.now).count ≤ 4096 }
+    requires places { 2 * (B.meaning book.now).count ≤ length ends.old }
     requires slots { length lists.now ≤ length settled.old }
     requires words { 256 ≤ length marks.old }
     requires decided { (i : ℕ) → i < length branch.now → grp (assigned (decision (slice_index branch.now i))) < length lists.now }
     requires grouped { AllByRecursion (Grouped (length lists.now)) (base_of base.now) }
-    ensures dead { result ≡ false → Dies lists.now (meaning book.now) (base_of base.now) (branch_of branch.now (length branch.now)) }
-    ensures lives { result ≡ true → Lives lists.now (meaning book.now) (base_of base.now) (branch_of branch.now (length branch.now)) (take (length lists.now) domains.new) }
+    ensures dead { result ≡ false → Dies lists.now (B.meaning book.now) (base_of base.now) (branch_of branch.now (length branch.now)) }
+    ensures lives { result ≡ true → Lives lists.now (B.meaning book.now) (base_of base.now) (branch_of branch.now (length branch.now)) (take (length lists.now) domains.new) }
     ensures beyond { drop (length lists.now) domains.new ≡ drop (length lists.now) domains.old }
     ensures unmarked { drop 256 marks.new ≡ drop 256 marks.old }
-    ensures unqueued { drop (2 * (meaning book.now).count) ends.new ≡ drop (2 * (meaning book.now).count) ends.old }
+    ensures unqueued { drop (2 * (B.meaning book.now).count) ends.new ≡ drop (2 * (B.meaning book.now).count) ends.old }
     ensures unsettled { drop (length lists.now) settled.new ≡ drop (length lists.now) settled.old }
 {
     let n = lists.len();

@@ -30,15 +30,15 @@ pub fn remove<B: RuleBook>(
     marks: &mut [u32],
     settled: &mut Ring<Assignment>,
 ) -> bool
-    requires wired { Wired (meaning book.now) wires.now }
-    requires held { Held (meaning book.now) (desk domains.old ends.old marks.old settled.old) }
+    requires wired { Wired (B.meaning book.now) wires.now }
+    requires held { Held (B.meaning book.now) (desk domains.old ends.old marks.old settled.old) }
     requires group { v / 64 < length domains.old }
     requires narrow { length domains.old ≤ 65536 }
     ensures within { (k : Family) → Gone k v → Inside k (family domains.old) → Inside k (family domains.new) }
     ensures gone { Gone (family domains.new) v }
     ensures dead { result ≡ false → Emptied domains.new }
-    ensures held { result ≡ true → Held (meaning book.now) (desk domains.new ends.new marks.new settled.new) }
-    ensures step { result ≡ true → Step (meaning book.now) (desk domains.old ends.old marks.old settled.old) (desk domains.new ends.new marks.new settled.new) }
+    ensures held { result ≡ true → Held (B.meaning book.now) (desk domains.new ends.new marks.new settled.new) }
+    ensures step { result ≡ true → Step (B.meaning book.now) (desk domains.old ends.old marks.old settled.old) (desk domains.new ends.new marks.new settled.new) }
 {
     let g = (v / 64) as u16;
     let keeps = without(domains[g as usize], (v % 64) as u8);
@@ -106,14 +106,14 @@ pub fn look<B: RuleBook>(
     marks: &mut [u32],
     settled: &mut Ring<Assignment>,
 ) -> bool
-    requires wired { Wired (meaning book.now) wires.now }
-    requires held { Held (meaning book.now) (desk domains.old ends.old marks.old settled.old) }
+    requires wired { Wired (B.meaning book.now) wires.now }
+    requires held { Held (B.meaning book.now) (desk domains.old ends.old marks.old settled.old) }
     requires grouped { Grouped (length domains.old) nogood.now }
     requires narrow { length domains.old ≤ 65536 }
     ensures within { (k : Family) → Heeds k nogood.now → Inside k (family domains.old) → Inside k (family domains.new) }
     ensures dead { result ≡ false → Emptied domains.new }
-    ensures held { result ≡ true → Held (meaning book.now) (desk domains.new ends.new marks.new settled.new) }
-    ensures step { result ≡ true → Step (meaning book.now) (desk domains.old ends.old marks.old settled.old) (desk domains.new ends.new marks.new settled.new) }
+    ensures held { result ≡ true → Held (B.meaning book.now) (desk domains.new ends.new marks.new settled.new) }
+    ensures step { result ≡ true → Step (B.meaning book.now) (desk domains.old ends.old marks.old settled.old) (desk domains.new ends.new marks.new settled.new) }
     ensures heeds { result ≡ true → Heeds (family domains.new) nogood.now }
 {
     match forced(nogood, domains) {

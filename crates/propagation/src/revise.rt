@@ -28,13 +28,13 @@ pub fn revise<B: RuleBook>(
     marks: &mut [u32],
     settled: &mut Ring<Assignment>,
 ) -> bool
-    requires wired { Wired (meaning book.now) wires.now }
-    requires held { Held (meaning book.now) (desk domains.old ends.old marks.old settled.old) }
-    ensures within { (k : Family) → Supported (meaning book.now) k e.rule e.second → Inside k (family domains.old) → Inside k (family domains.new) }
+    requires wired { Wired (B.meaning book.now) wires.now }
+    requires held { Held (B.meaning book.now) (desk domains.old ends.old marks.old settled.old) }
+    ensures within { (k : Family) → Supported (B.meaning book.now) k e.rule e.second → Inside k (family domains.old) → Inside k (family domains.new) }
     ensures dead { result ≡ false → Emptied domains.new }
-    ensures held { result ≡ true → Held (meaning book.now) (desk domains.new ends.new marks.new settled.new) }
-    ensures step { result ≡ true → Step (meaning book.now) (desk domains.old ends.old marks.old settled.old) (desk domains.new ends.new marks.new settled.new) }
-    ensures done { result ≡ true → Supported (meaning book.now) (family domains.new) e.rule e.second }
+    ensures held { result ≡ true → Held (B.meaning book.now) (desk domains.new ends.new marks.new settled.new) }
+    ensures step { result ≡ true → Step (B.meaning book.now) (desk domains.old ends.old marks.old settled.old) (desk domains.new ends.new marks.new settled.new) }
+    ensures done { result ≡ true → Supported (B.meaning book.now) (family domains.new) e.rule e.second }
 {
     match book.ends(e.rule) {
         None => true,

@@ -38,15 +38,15 @@ pub fn shrink<B: RuleBook>(
     marks: &mut [u32],
     settled: &mut Ring<Assignment>,
 ) -> bool
-    requires wired { Wired (meaning book.now) wires.now }
-    requires held { Held (meaning book.now) (desk domains.old ends.old marks.old settled.old) }
+    requires wired { Wired (B.meaning book.now) wires.now }
+    requires held { Held (B.meaning book.now) (desk domains.old ends.old marks.old settled.old) }
     requires group { g < length domains.old }
     requires less { keeps ≤ slice_index domains.old g }
     requires inside { (j : ℕ) → has keeps j ≡ true → has (slice_index domains.old g) j ≡ true }
     ensures left { domains.new ≡ slice_set domains.old g keeps }
     ensures dead { result ≡ false → keeps ≡ 0 }
-    ensures held { result ≡ true → Held (meaning book.now) (desk domains.new ends.new marks.new settled.new) }
-    ensures step { result ≡ true → Step (meaning book.now) (desk domains.old ends.old marks.old settled.old) (desk domains.new ends.new marks.new settled.new) }
+    ensures held { result ≡ true → Held (B.meaning book.now) (desk domains.new ends.new marks.new settled.new) }
+    ensures step { result ≡ true → Step (B.meaning book.now) (desk domains.old ends.old marks.old settled.old) (desk domains.new ends.new marks.new settled.new) }
 {
     let old = domains[g as usize];
     if keeps == old {

@@ -8,7 +8,7 @@ use rules::book::RuleBook;
 
 // Whether the rule permits `a` at this end with `b` across.
 pub fn allowed<B: RuleBook>(book: &B, rule: u32, second: bool, a: u8, b: u8) -> bool
-    ensures { result ≡ allows (meaning book.now) rule second a b }
+    ensures { result ≡ allows (B.meaning book.now) rule second a b }
 {
     if second {
         book.permits(rule, b, a)
@@ -19,7 +19,7 @@ pub fn allowed<B: RuleBook>(book: &B, rule: u32, second: bool, a: u8, b: u8) -> 
 
 // Whether some channel across goes with `a`.
 pub fn backed<B: RuleBook>(book: &B, rule: u32, second: bool, a: u8, across: u64) -> bool
-    ensures { Decides result (Backed (meaning book.now) rule second across a) }
+    ensures { Decides result (Backed (B.meaning book.now) rule second across a) }
 {
     let mut left = across;
     while left != 0 {
@@ -37,8 +37,8 @@ pub fn trimmed<B: RuleBook>(book: &B, rule: u32, second: bool, set: u64, across:
     requires { a < 64 }
     ensures less { result ≤ set }
     ensures inside { (j : ℕ) → has result j ≡ true → has set j ≡ true }
-    ensures here { has result a ≡ true → Backed (meaning book.now) rule second across a }
-    ensures all { (j : ℕ) → has set j ≡ true → Backed (meaning book.now) rule second across j → has result j ≡ true }
+    ensures here { has result a ≡ true → Backed (B.meaning book.now) rule second across a }
+    ensures all { (j : ℕ) → has set j ≡ true → Backed (B.meaning book.now) rule second across j → has result j ≡ true }
 {
     if backed(book, rule, second, a, across) {
         set
@@ -50,7 +50,7 @@ pub fn trimmed<B: RuleBook>(book: &B, rule: u32, second: bool, set: u64, across:
 // The channels of `set` that are backed from across.
 pub fn kept_at<B: RuleBook>(book: &B, rule: u32, second: bool, set: u64, across: u64) -> u64
     ensures less { result ≤ set }
-    ensures kept { Kept (meaning book.now) rule second set across result }
+    ensures kept { Kept (B.meaning book.now) rule second set across result }
 {
     let mut rest = set;
     let mut left = set;

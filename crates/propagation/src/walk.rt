@@ -59,14 +59,14 @@ pub fn look_unless<B: RuleBook>(
     marks: &mut [u32],
     settled: &mut Ring<Assignment>,
 ) -> bool
-    requires wired { Wired (meaning book.now) wires.now }
-    requires held { Held (meaning book.now) (desk domains.old ends.old marks.old settled.old) }
+    requires wired { Wired (B.meaning book.now) wires.now }
+    requires held { Held (B.meaning book.now) (desk domains.old ends.old marks.old settled.old) }
     requires grouped { Grouped (length domains.old) nogood.now }
     requires narrow { length domains.old ≤ 65536 }
     ensures within { (k : Family) → Heeds k nogood.now → Inside k (family domains.old) → Inside k (family domains.new) }
     ensures dead { result ≡ false → Emptied domains.new }
-    ensures held { result ≡ true → Held (meaning book.now) (desk domains.new ends.new marks.new settled.new) }
-    ensures step { result ≡ true → Step (meaning book.now) (desk domains.old ends.old marks.old settled.old) (desk domains.new ends.new marks.new settled.new) }
+    ensures held { result ≡ true → Held (B.meaning book.now) (desk domains.new ends.new marks.new settled.new) }
+    ensures step { result ≡ true → Step (B.meaning book.now) (desk domains.old ends.old marks.old settled.old) (desk domains.new ends.new marks.new settled.new) }
     ensures good { result ≡ true → (Spared just nogood.now → Good domains.old (queued settled.old) nogood.now) → Good domains.new (queued settled.new) nogood.now }
 {
     if spared(just, nogood) {
@@ -86,15 +86,15 @@ pub fn heed_all<B: RuleBook>(
     marks: &mut [u32],
     settled: &mut Ring<Assignment>,
 ) -> bool
-    requires wired { Wired (meaning book.now) wires.now }
-    requires held { Held (meaning book.now) (desk domains.old ends.old marks.old settled.old) }
+    requires wired { Wired (B.meaning book.now) wires.now }
+    requires held { Held (B.meaning book.now) (desk domains.old ends.old marks.old settled.old) }
     requires grouped { AllByRecursion (Grouped (length domains.old)) (base_of base.now) }
     requires narrow { length domains.old ≤ 65536 }
     requires others { AllByRecursion (λ n. Spared just n → Good domains.old (queued settled.old) n) (base_of base.now) }
     ensures within { (k : Family) → AllByRecursion (Heeds k) (base_of base.now) → Inside k (family domains.old) → Inside k (family domains.new) }
     ensures dead { result ≡ false → Emptied domains.new }
-    ensures held { result ≡ true → Held (meaning book.now) (desk domains.new ends.new marks.new settled.new) }
-    ensures step { result ≡ true → Step (meaning book.now) (desk domains.old ends.old marks.old settled.old) (desk domains.new ends.new marks.new settled.new) }
+    ensures held { result ≡ true → Held (B.meaning book.now) (desk domains.new ends.new marks.new settled.new) }
+    ensures step { result ≡ true → Step (B.meaning book.now) (desk domains.old ends.old marks.old settled.old) (desk domains.new ends.new marks.new settled.new) }
     ensures good { result ≡ true → AllByRecursion (Good domains.new (queued settled.new)) (base_of base.now) }
 {
     let mut pos = 0;

@@ -9,9 +9,9 @@ pub fn chain<B: RuleBook>(book: &B, wires: &mut [u16], g: u16, e: u16)
     requires size { length wires.old ≡ 8392 }
     requires group { g < 200 }
     requires end { e < 8192 }
-    requires faces { Facing (meaning book.now) g e }
-    requires before { Chained (meaning book.now) e wires.old }
-    ensures { Chained (meaning book.now) (e + 1) wires.new }
+    requires faces { Facing (B.meaning book.now) g e }
+    requires before { Chained (B.meaning book.now) e wires.old }
+    ensures { Chained (B.meaning book.now) (e + 1) wires.new }
 {
     wires[e as usize] = wires[8192 + g as usize];
     wires[8192 + g as usize] = e + 1;
@@ -20,10 +20,10 @@ pub fn chain<B: RuleBook>(book: &B, wires: &mut [u16], g: u16, e: u16)
 // Both ends of a rule, where it has any.
 pub fn chain_rule<B: RuleBook>(book: &B, wires: &mut [u16], i: u32)
     requires size { length wires.old ≡ 8392 }
-    requires groups { (meaning book.now).groups ≤ 200 }
+    requires groups { (B.meaning book.now).groups ≤ 200 }
     requires rule { i < 4096 }
-    requires before { Chained (meaning book.now) (2 * i) wires.old }
-    ensures { Chained (meaning book.now) (2 * (i + 1)) wires.new }
+    requires before { Chained (B.meaning book.now) (2 * i) wires.old }
+    ensures { Chained (B.meaning book.now) (2 * (i + 1)) wires.new }
 {
     if let Some((first, second)) = book.ends(i) {
         let e = 2 * i as u16;
@@ -35,9 +35,9 @@ pub fn chain_rule<B: RuleBook>(book: &B, wires: &mut [u16], i: u32)
 // All rules of the book.
 pub fn wire<B: RuleBook>(book: &B, wires: &mut [u16])
     requires size { length wires.old ≡ 8392 }
-    requires groups { (meaning book.now).groups ≤ 200 }
-    requires rules { (meaning book.now).count ≤ 4096 }
-    ensures { Wired (meaning book.now) wires.new }
+    requires groups { (B.meaning book.now).groups ≤ 200 }
+    requires rules { (B.meaning book.now).count ≤ 4096 }
+    ensures { Wired (B.meaning book.now) wires.new }
 {
     wires.fill(0);
     for i in 0..book.count() {

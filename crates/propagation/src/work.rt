@@ -34,13 +34,13 @@ pub fn take_turn<B: RuleBook>(
     marks: &mut [u32],
     settled: &mut Ring<Assignment>,
 ) -> Turn
-    requires wired { Wired (meaning book.now) wires.now }
-    requires held { Held (meaning book.now) (desk domains.old ends.old marks.old settled.old) }
-    requires going { Going (meaning book.now) (base_of base.now) (desk domains.old ends.old marks.old settled.old) }
+    requires wired { Wired (B.meaning book.now) wires.now }
+    requires held { Held (B.meaning book.now) (desk domains.old ends.old marks.old settled.old) }
+    requires going { Going (B.meaning book.now) (base_of base.now) (desk domains.old ends.old marks.old settled.old) }
     requires grouped { AllByRecursion (Grouped (length domains.old)) (base_of base.now) }
     requires narrow { length domains.old ≤ 65536 }
-    ensures within { (k : Family) → Agrees (meaning book.now) (base_of base.now) k → Inside k (family domains.old) → Inside k (family domains.new) }
-    ensures turned { Turned (meaning book.now) (base_of base.now) (desk domains.old ends.old marks.old settled.old) (desk domains.new ends.new marks.new settled.new) result }
+    ensures within { (k : Family) → Agrees (B.meaning book.now) (base_of base.now) k → Inside k (family domains.old) → Inside k (family domains.new) }
+    ensures turned { Turned (B.meaning book.now) (base_of base.now) (desk domains.old ends.old marks.old settled.old) (desk domains.new ends.new marks.new settled.new) result }
 {
     match settled.pop() {
         Some(f) => {
@@ -74,16 +74,16 @@ pub fn work<B: RuleBook>(
     marks: &mut [u32],
     settled: &mut Ring<Assignment>,
 ) -> bool
-    requires wired { Wired (meaning book.now) wires.now }
-    requires held { Held (meaning book.now) (desk domains.old ends.old marks.old settled.old) }
-    requires going { Going (meaning book.now) (base_of base.now) (desk domains.old ends.old marks.old settled.old) }
+    requires wired { Wired (B.meaning book.now) wires.now }
+    requires held { Held (B.meaning book.now) (desk domains.old ends.old marks.old settled.old) }
+    requires going { Going (B.meaning book.now) (base_of base.now) (desk domains.old ends.old marks.old settled.old) }
     requires grouped { AllByRecursion (Grouped (length domains.old)) (base_of base.now) }
     requires narrow { length domains.old ≤ 65536 }
-    ensures within { (k : Family) → Agrees (meaning book.now) (base_of base.now) k → Inside k (family domains.old) → Inside k (family domains.new) }
+    ensures within { (k : Family) → Agrees (B.meaning book.now) (base_of base.now) k → Inside k (family domains.old) → Inside k (family domains.new) }
     ensures inside { result ≡ true → Inside (family domains.new) (family domains.old) }
     ensures dead { result ≡ false → Emptied domains.new }
-    ensures held { result ≡ true → Held (meaning book.now) (desk domains.new ends.new marks.new settled.new) }
-    ensures agrees { result ≡ true → Agrees (meaning book.now) (base_of base.now) (family domains.new) }
+    ensures held { result ≡ true → Held (B.meaning book.now) (desk domains.new ends.new marks.new settled.new) }
+    ensures agrees { result ≡ true → Agrees (B.meaning book.now) (base_of base.now) (family domains.new) }
 {
     loop {
         match take_turn(book, wires, base, domains, ends, marks, settled) {

@@ -11,8 +11,8 @@ loop-next-init g c =
     let w = c.requires.wired in
     (refl, c.requires.line, (λ e h. h), w.head c.args.g, λ n f l. absurd (let z = w.last c.args.g n f in omega arith))
 
-pub overflow-cast-e : goal.overflow-cast-e
-overflow-cast-e g c =
+pub overflow_cast-e : goal.overflow_cast-e
+overflow_cast-e g c =
     let z = facing_below (g.B.RuleBook.meaning c.args.book.now) (g.B.RuleBook.lawful c.args.book.now) c.args.g (c.loop-next.next - 1) (c.loop-next.invariant.3 c.loop-next-test.true) in
     let r = c.requires.wired.rules in
     omega arith
@@ -32,14 +32,14 @@ add-requires g c =
       counted = omega (arith, c.count-rules.ensures, z);
     }
 
-pub overflow-cast-next-in-loop-next : goal.overflow-cast-next-in-loop-next
-overflow-cast-next-in-loop-next g c =
+pub overflow_cast-next-in-loop-next : goal.overflow_cast-next-in-loop-next
+overflow_cast-next-in-loop-next g c =
     let z = facing_below (g.B.RuleBook.meaning c.args.book.now) (g.B.RuleBook.lawful c.args.book.now) c.args.g (c.loop-next.next - 1) (c.loop-next.invariant.3 c.loop-next-test.true) in
     let r = c.requires.wired.rules in
     omega arith
 
-pub offset-bounds-wires-e : goal.offset-bounds-wires-e
-offset-bounds-wires-e g c =
+pub offset_bounds-wires-e : goal.offset_bounds-wires-e
+offset_bounds-wires-e g c =
     let z = facing_below (g.B.RuleBook.meaning c.args.book.now) (g.B.RuleBook.lawful c.args.book.now) c.args.g (c.loop-next.next - 1) (c.loop-next.invariant.3 c.loop-next-test.true) in
     let r = c.requires.wired.rules in
     omega arith

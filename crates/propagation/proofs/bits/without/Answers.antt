@@ -3,8 +3,8 @@ use Rattle.propagation.proofs.Digits.{shifted, dig_ge, has_dig, minus_has}
 use Rattle.rules.specs.Channels.{has}
 use Rattle.propagation.proofs.bits.without.Goals as goal
 
-pub overflow-sub-result : goal.overflow-sub-result
-overflow-sub-result c =
+pub overflow_sub-result : goal.overflow_sub-result
+overflow_sub-result c =
     let m = c.args.set in
     subst (λ (x : ℕ). x ≤ m) (sym (shifted 64 c.args.c c.requires)) (dig_ge c.args.c m (has_dig m c.args.c (sym c.if-holds.ensures)))
 

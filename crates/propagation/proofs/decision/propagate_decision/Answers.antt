@@ -14,12 +14,12 @@ returns g c =
     let n = length ls in
     let k = 2 * c.count.result in
     let ek : k ≡ 2 * m.count = ap (λ (x : ℕ). 2 * x) c.count.ensures in
-    let front : take n _ ≡ c.filter-decision.new.domains = take_at c.filter-decision.new.domains _ n (omega (arith, c.filter-decision.auto.domains, length-take (n - 0) c.args.domains.now, c.requires.size)) in
+    let front : take n _ ≡ c.filter_decision.new.domains = take_at c.filter_decision.new.domains _ n (omega (arith, c.filter_decision.auto.domains, length-take (n - 0) c.args.domains.now, c.requires.size)) in
     record {
-      dead = c.filter-decision.ensures.dead;
-      lives = λ e. subst (λ (x : List ℕ). Lives ls m base (branch_of ws (length ws)) x) (sym front) (c.filter-decision.ensures.lives e);
-      beyond = past_part c.args.domains.now c.filter-decision.new.domains n c.requires.size c.filter-decision.auto.domains;
-      unmarked = past_part c.args.marks.now c.filter-decision.new.marks 256 c.requires.words c.filter-decision.auto.marks;
-      unqueued = past_part_at c.args.ends.now c.filter-decision.new.ends k (2 * m.count) ek (omega (arith, c.requires.places, ek)) c.filter-decision.auto.ends;
-      unsettled = past_part c.args.settled.now c.filter-decision.new.settled n c.requires.slots c.filter-decision.auto.settled;
+      dead = c.filter_decision.ensures.dead;
+      lives = λ e. subst (λ (x : List ℕ). Lives ls m base (branch_of ws (length ws)) x) (sym front) (c.filter_decision.ensures.lives e);
+      beyond = past_part c.args.domains.now c.filter_decision.new.domains n c.requires.size c.filter_decision.auto.domains;
+      unmarked = past_part c.args.marks.now c.filter_decision.new.marks 256 c.requires.words c.filter_decision.auto.marks;
+      unqueued = past_part_at c.args.ends.now c.filter_decision.new.ends k (2 * m.count) ek (omega (arith, c.requires.places, ek)) c.filter_decision.auto.ends;
+      unsettled = past_part c.args.settled.now c.filter_decision.new.settled n c.requires.slots c.filter_decision.auto.settled;
     }

@@ -6,12 +6,12 @@ use Rattle.propagation.proofs.Marks.{line_push, line_room, waits_push}
 use Rattle.propagation.specs.declared.records.RuleEnd.{RuleEnd}
 use Rattle.propagation.proofs.line.add.Goals as goal
 
-pub returns-then-not-is-marked : goal.returns-then-not-is-marked
-returns-then-not-is-marked c =
+pub returns-then-not-is_marked : goal.returns-then-not-is_marked
+returns-then-not-is_marked c =
     let q = queued c.args.ends.now in
     let e = c.args.e in
     let marks = c.args.marks.now in
-    let off : marked marks (place e) ≡ false = ap (marked marks) (sym c.number-p.ensures) ∙ sym c.is-marked.ensures ∙ c.if-not-is-marked.true in
+    let off : marked marks (place e) ≡ false = ap (marked marks) (sym c.number-p.ensures) ∙ sym c.is_marked.ensures ∙ c.if-not-is_marked.true in
     let room = line_room c.args.rules q marks e c.requires.line c.requires.counted off in
     let pushed : queued c.push.new.self ≡ q ++ (e ∷ []) = either_way c.push.result c.push.ensures.line (λ _ p. p.1) (λ _ p. absurd (omega (arith, room, p.1, c.requires.space.room))) in
     record {

@@ -10,5 +10,5 @@ returns c =
     let r = c.without.result in
     let b = c.without.ensures.bits in (
       λ e. only_if ms v r b (eqb-true r 0 e),
-      λ o. elim (cases_eq r 0) [ inl z ↦ eq-eqb r 0 z | inr n ↦ absurd (if_only ms v r (omega (arith, c.without.type-inv)) b o n) ],
+      λ o. elim (cases_eq r 0) [ inl z ↦ eq-eqb r 0 z | inr n ↦ absurd (if_only ms v r (omega (arith, c.without.type_inv)) b o n) ],
     )

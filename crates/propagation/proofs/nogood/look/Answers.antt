@@ -50,5 +50,5 @@ returns-in-Some g c =
       dead = c.remove.ensures.dead;
       held = c.remove.ensures.held;
       step = c.remove.ensures.step;
-      heeds = λ e. gone_heeds (family ms') n t.0 t.1 gone (has_some (get_or ms' (z / 64) 0) (omega (arith, c.type-inv.domains (z / 64))) ((c.remove.ensures.held e).alive (z / 64) (omega (arith, size, b))));
+      heeds = λ e. gone_heeds (family ms') n t.0 t.1 gone (has_some (get_or ms' (z / 64) 0) (omega (arith, c.type_inv.domains (z / 64))) ((c.remove.ensures.held e).alive (z / 64) (omega (arith, size, b))));
     }

@@ -14,14 +14,14 @@ returns-in-Some g c =
     let x = c.in-Some.pair in
     let n = c.turned-near.result.0 in
     let f = c.turned-near.result.1 in
-    let k = c.kept-at-keeps.result in
+    let k = c.kept_at-keeps.result in
     let is = sym c.in-Some.ensures.read in
     let apart = ends_apart m law i x is in
     let h = c.turned-near.ensures in
     record {
-      within = looked_within m ms ms' i s x n f k is h.here h.there apart c.requires.held.groups c.kept-at-keeps.ensures.kept c.shrink.ensures.left;
-      dead = λ e. looked_dead m ms ms' i s x n f k is h.here h.there apart c.requires.held.groups c.kept-at-keeps.ensures.kept c.shrink.ensures.left (c.shrink.ensures.dead e);
+      within = looked_within m ms ms' i s x n f k is h.here h.there apart c.requires.held.groups c.kept_at-keeps.ensures.kept c.shrink.ensures.left;
+      dead = λ e. looked_dead m ms ms' i s x n f k is h.here h.there apart c.requires.held.groups c.kept_at-keeps.ensures.kept c.shrink.ensures.left (c.shrink.ensures.dead e);
       held = c.shrink.ensures.held;
       step = c.shrink.ensures.step;
-      done = λ _. looked_done m ms ms' i s x n f k is h.here h.there apart c.requires.held.groups c.kept-at-keeps.ensures.kept c.shrink.ensures.left;
+      done = λ _. looked_done m ms ms' i s x n f k is h.here h.there apart c.requires.held.groups c.kept_at-keeps.ensures.kept c.shrink.ensures.left;
     }

@@ -35,7 +35,7 @@ returns g c =
     let s = queued c.args.settled.now in
     let s' = queued c.settle.new.settled in
     let q = queued c.args.ends.now in
-    let q' = queued c.queue-across.new.ends in
+    let q' = queued c.queue_across.new.ends in
     let fits : get_or ms x 0 < 2 ^ 64 = omega arith in
     let less : k < get_or ms x 0 = omega (arith, c.requires.less, c.if-keeps-old.false) in
     let some = has_some k (omega arith) c.if-keeps-eq0.false in
@@ -45,15 +45,15 @@ returns g c =
       dead = λ e. absurd (true≢false e);
       held = λ _. record {
         groups = size-ms ∙ h.groups;
-        line = c.queue-across.ensures.line;
-        space = record { few = h.space.few; room = omega (arith, h.space.room, c.queue-across.ensures.sized); words = c.queue-across.auto.marks ∙ h.space.words };
+        line = c.queue_across.ensures.line;
+        space = record { few = h.space.few; room = omega (arith, h.space.room, c.queue_across.ensures.sized); words = c.queue_across.auto.marks ∙ h.space.words };
         settled = shrink_settled ms x k c.requires.group c.requires.inside fits less some s s' h.settled c.settle.ensures.noting;
         room = omega (arith, h.room, size-ms, c.settle.ensures.sized);
         alive = set_alive ms x k c.requires.group c.if-keeps-eq0.false h.alive;
       };
       step = λ _. record {
         inside = set_inside ms x k c.requires.group c.requires.inside;
-        ends = shrink_ends ms x k c.requires.group c.requires.inside fits less some m q q' c.queue-across.ensures.still c.queue-across.ensures.across;
+        ends = shrink_ends ms x k c.requires.group c.requires.inside fits less some m q q' c.queue_across.ensures.still c.queue_across.ensures.across;
         assignments = shrink_assignments ms x k c.requires.group c.requires.inside fits less some s s' c.settle.ensures.noting;
         falls = inr (shrink_falls ms x k c.requires.group c.requires.inside fits less some);
       };

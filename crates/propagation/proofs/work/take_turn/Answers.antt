@@ -14,8 +14,8 @@ use Rattle.propagation.proofs.Walking.{good_step}
 use Rattle.propagation.proofs.Turning.{spare, settled_from, weight_falls, calm_step, calm_looked, all_done}
 use Rattle.propagation.proofs.work.take_turn.Goals as goal
 
-pub heed-all-requires : goal.heed-all-requires
-heed-all-requires g c =
+pub heed_all-requires : goal.heed_all-requires
+heed_all-requires g c =
     let h = c.requires.held in
     record {
       wired = c.requires.wired;
@@ -32,30 +32,30 @@ heed-all-requires g c =
       others = spare c.args.domains.now (queued c.args.settled.now) (queued c.pop.new.self) c.in-Some.f _ c.in-Some.ensures.line refl (base_of c.args.base.now) c.requires.going.good;
     }
 
-pub returns-then-heed-all : goal.returns-then-heed-all
-returns-then-heed-all g c =
+pub returns-then-heed_all : goal.returns-then-heed_all
+returns-then-heed_all g c =
     let m = g.B.RuleBook.meaning c.args.book.now in
     let d0 = desk c.args.domains.now c.args.ends.now c.args.marks.now c.args.settled.now in
     let d1 = desk c.args.domains.now c.args.ends.now c.args.marks.now c.pop.new.self in
-    let d2 = desk c.heed-all.new.domains c.heed-all.new.ends c.heed-all.new.marks c.heed-all.new.settled in
-    let ok = c.if-heed-all.true in
-    let step = c.heed-all.ensures.step ok in
-    let held = c.heed-all.ensures.held ok in
+    let d2 = desk c.heed_all.new.domains c.heed_all.new.ends c.heed_all.new.marks c.heed_all.new.settled in
+    let ok = c.if-heed_all.true in
+    let step = c.heed_all.ensures.step ok in
+    let held = c.heed_all.ensures.held ok in
     record {
-      within = λ k a. c.heed-all.ensures.within k a.heeds;
+      within = λ k a. c.heed_all.ensures.within k a.heeds;
       turned = record {
         held = held;
-        going = record { calm = calm_step m d1 d2 step c.requires.going.calm; good = c.heed-all.ensures.good ok };
+        going = record { calm = calm_step m d1 d2 step c.requires.going.calm; good = c.heed_all.ensures.good ok };
         inside = step.inside;
         falls = weight_falls m d0 d1 d2 held step refl (omega (arith, ap length c.in-Some.ensures.line));
       };
     }
 
-pub returns-else-heed-all : goal.returns-else-heed-all
-returns-else-heed-all g c =
+pub returns-else-heed_all : goal.returns-else-heed_all
+returns-else-heed_all g c =
     record {
-      within = λ k a. c.heed-all.ensures.within k a.heeds;
-      turned = c.heed-all.ensures.dead c.if-heed-all.false;
+      within = λ k a. c.heed_all.ensures.within k a.heeds;
+      turned = c.heed_all.ensures.dead c.if-heed_all.false;
     }
 
 pub returns-in-None-take : goal.returns-in-None-take

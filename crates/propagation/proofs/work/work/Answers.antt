@@ -7,8 +7,8 @@ use Rattle.model.specs.Words.{base_of}
 use Rattle.propagation.specs.Bases.{Grouped}
 use Rattle.propagation.proofs.work.work.Goals as goal
 
-pub take-turn-requires : goal.take-turn-requires
-take-turn-requires g c =
+pub take_turn-requires : goal.take_turn-requires
+take_turn-requires g c =
     let i = c.loop.invariant in
     let size : length c.args.domains.now ≡ length c.loop.domains = omega arith in
     record {
@@ -23,7 +23,7 @@ pub loop-preserved : goal.loop-preserved
 loop-preserved g c =
     let i = c.loop.invariant in
     let t = c.in-More.ensures.turned in
-    (t.held, t.going, λ x y h. i.2 x y (t.inside x y h), λ k a ins. c.take-turn.ensures.within k a (i.3 k a ins))
+    (t.held, t.going, λ x y h. i.2 x y (t.inside x y h), λ k a ins. c.take_turn.ensures.within k a (i.3 k a ins))
 
 pub loop-smaller : goal.loop-smaller
 loop-smaller g c = c.in-More.ensures.turned.falls
@@ -32,7 +32,7 @@ pub returns-in-Dead : goal.returns-in-Dead
 returns-in-Dead g c =
     let i = c.loop.invariant in
     record {
-      within = λ k a ins. c.take-turn.ensures.within k a (i.3 k a ins);
+      within = λ k a ins. c.take_turn.ensures.within k a (i.3 k a ins);
       inside = λ e. absurd (false≢true e);
       dead = λ _. c.in-Dead.ensures.turned;
       held = λ e. absurd (false≢true e);
@@ -44,7 +44,7 @@ returns-in-Done g c =
     let i = c.loop.invariant in
     let t = c.in-Done.ensures.turned in
     record {
-      within = λ k a ins. c.take-turn.ensures.within k a (i.3 k a ins);
+      within = λ k a ins. c.take_turn.ensures.within k a (i.3 k a ins);
       inside = λ _. subst (λ (x : List ℕ). Inside (family x) (family c.args.domains.now)) (sym t.same) i.2;
       dead = λ e. absurd (true≢false e);
       held = λ _. t.held;
