@@ -1,15 +1,12 @@
 -- One more decision, from the family in hand. Assumes nothing.
-use Rattle.std.proofs.Common.{◌≡◌, ℕ, zero, suc, ◌+◌, ◌-◌, ◌*◌, ◌/◌, ◌%◌, ◌^◌, ◌<◌, ◌≤◌, Bool, true, false, ◌&&◌, eqb, ◌⊎◌, List, [], ◌∷◌, length, get_or, set, sym, refl, ap, ◌∙◌, subst, inl, inr, arith}
+use Rattle.std.proofs.Common.{◌≡◌, ℕ, ◌-◌, ◌/◌, ◌%◌, ◌^◌, ◌<◌, ◌≤◌, true, false, ◌&&◌, eqb, List, length, get_or, set, sym, subst, inl, inr, arith}
 use Rattle.std.specs.List.{AllByRecursion}
 use Rattle.std.proofs.lemmas.Bool.{both_ways, cases_eq, eq-eqb}
 use Rattle.rules.specs.Meanings.{Meaning}
 use Rattle.rules.specs.Channels.{has}
-use Rattle.rules.specs.Plans.{Listed}
-use Rattle.model.specs.Masks.{grp, chan}
-use Rattle.model.specs.Decisions.{Decision, taken}
+use Rattle.model.specs.Masks.{grp}
 use Rattle.model.specs.Words.{decision, branch_of}
-use Rattle.model.specs.Remains.{Family, family, Only, Obeys, Meets, Remains, Alive}
-use Rattle.model.proofs.Tests.{of_all}
+use Rattle.model.specs.Remains.{Family, family, Only, Obeys, Alive}
 use Rattle.model.proofs.Words.{is_taken}
 use Rattle.propagation.specs.declared.records.RuleEnd.{RuleEnd}
 use Rattle.propagation.specs.declared.records.Assignment.{Assignment}

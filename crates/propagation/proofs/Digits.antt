@@ -1,11 +1,11 @@
 -- One binary digit of a number set or cleared. Assumes nothing.
-use Rattle.std.proofs.Common.{◌≡◌, ℕ, zero, suc, ◌+◌, ◌-◌, ◌*◌, ◌/◌, ◌%◌, ◌^◌, ◌<◌, ◌≤◌, Bool, true, false, not, ◌&&◌, ◌||◌, eqb, ◌≢◌, ◌⊎◌, sym, refl, ap, ◌∙◌, subst, inl, inr, mod-eq_of_lt, one-mul, pow-suc, div-one, arith, pow_pos}
+use Rattle.std.proofs.Common.{◌≡◌, ℕ, zero, suc, ◌+◌, ◌-◌, ◌*◌, ◌/◌, ◌%◌, ◌^◌, ◌<◌, ◌≤◌, Bool, true, false, not, ◌&&◌, ◌||◌, eqb, ◌≢◌, ◌⊎◌, sym, refl, ap, ◌∙◌, inl, inr, mod-eq_of_lt, one-mul, pow-suc, div-one, arith}
 use native.Mathlib.Nat.{zero-div, div-div-eq-div-mul, pow-succ'}
 use lib.Pow.{pow-lt}
 use lib.Count.{count_trailing_zeros, under}
-use Rattle.std.proofs.lemmas.Bool.{eqb-true, eq-eqb, ne_eqb, eqb-false, cases_eq, false≢true, both_ways, cases_Bool, and_parts, and_from, and_cases, not-true, not-false}
+use Rattle.std.proofs.lemmas.Bool.{eqb-true, eq-eqb, ne_eqb, eqb-false, cases_eq, both_ways, and_parts, and_from, and_cases, not-true, not-false}
 use Rattle.rules.specs.Channels.{has}
-use Rattle.model.proofs.Tests.{refuted, seek}
+use Rattle.model.proofs.Tests.{seek}
 
 abbrev pub dig : ℕ → ℕ → ℕ
 dig m c = (m / 2 ^ c) % 2

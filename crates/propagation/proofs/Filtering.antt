@@ -1,25 +1,24 @@
 -- From what the work gives to what remains. Assumes nothing.
-use Rattle.std.proofs.Common.{◌≡◌, ℕ, ◌+◌, ◌*◌, ◌/◌, ◌%◌, ◌^◌, ◌<◌, ◌≤◌, Bool, true, false, ◌≢◌, ◌⊎◌, List, [], ◌∷◌, length, get_or, Some, None, sym, refl, ap, ◌∙◌, subst, inl, inr, arith}
-use Rattle.std.specs.List.{AllByRecursion}
-use Rattle.std.proofs.lemmas.Bool.{both_ways, cases_lt, true≢false, false≢true}
+use Rattle.std.proofs.Common.{◌≡◌, ℕ, ◌/◌, ◌%◌, ◌^◌, ◌<◌, Bool, true, false, List, [], length, get_or, sym, ap, ◌∙◌, subst, inl, inr, arith}
+use Rattle.std.proofs.lemmas.Bool.{both_ways, cases_lt, false≢true}
 use Rattle.std.proofs.lemmas.List.{get_or_past}
 use Rattle.rules.specs.Meanings.{Meaning, Lawful}
 use Rattle.rules.specs.Channels.{has}
 use Rattle.rules.specs.Plans.{Listed}
 use Rattle.model.specs.Decisions.{Decision}
 use Rattle.model.specs.Words.{decision, branch_of}
-use Rattle.model.specs.Remains.{Family, family, Obeys, Meets, Remains, Alive}
+use Rattle.model.specs.Remains.{Family, family, Obeys, Meets}
 use Rattle.model.proofs.Tests.{refuted}
 use Rattle.model.proofs.Largest.{filtered, filtered_remains}
 use Rattle.propagation.specs.declared.records.RuleEnd.{RuleEnd}
 use Rattle.propagation.specs.declared.records.Assignment.{Assignment}
-use Rattle.propagation.specs.Waits.{waits, marked, at_end, Line}
+use Rattle.propagation.specs.Waits.{waits, at_end, Line}
 use Rattle.propagation.specs.Supports.{Inside, Supported}
-use Rattle.propagation.specs.Desks.{Emptied, Settled, stands}
+use Rattle.propagation.specs.Desks.{Emptied, Settled}
 use Rattle.propagation.specs.Calms.{Agrees, Calm}
 use Rattle.propagation.specs.Filtered.{Lives, Doomed, Dies}
 use Rattle.propagation.proofs.Digits.{has_none, has_below, has_some}
-use Rattle.propagation.proofs.Starting.{obeys_inside, branch_all, all_branch}
+use Rattle.propagation.proofs.Starting.{branch_all, all_branch}
 use Rattle.propagation.proofs.Revising.{none_supported}
 
 -- an empty line with no marks

@@ -1,19 +1,16 @@
 -- Nogoods heeded. Assumes nothing.
-use Rattle.std.proofs.Common.{◌≡◌, ℕ, zero, suc, ◌+◌, ◌-◌, ◌/◌, ◌%◌, ◌^◌, ◌<◌, ◌≤◌, Bool, true, false, not, ◌&&◌, ◌≢◌, ◌⊎◌, List, [], ◌∷◌, ◌++◌, length, get_or, take, drop, set, sym, refl, ap, ◌∙◌, subst, inl, inr, arith}
+use Rattle.std.proofs.Common.{◌≡◌, ℕ, ◌/◌, ◌%◌, ◌^◌, ◌<◌, true, false, ◌≢◌, ◌⊎◌, List, length, get_or, set, sym, refl, ap, ◌∙◌, subst, inl, inr, arith}
 use Rattle.std.specs.List.{AllByRecursion}
 use Rattle.std.proofs.lemmas.Bool.{cases_eq, both_ways}
-use Rattle.std.proofs.lemmas.List.{length-set, length-drop, get_or-set_same, drop-drop, drop_more, take_all, drop_all}
+use Rattle.std.proofs.lemmas.List.{length-set, get_or-set_same}
 use Rattle.std.proofs.ByRecursion.{All-get_or, All-from_get_or, All-weaker}
-use Rattle.rules.specs.Meanings.{Meaning}
 use Rattle.rules.specs.Channels.{has}
-use Rattle.model.specs.Masks.{grp, chan}
+use Rattle.model.specs.Masks.{grp}
 use Rattle.model.specs.Remains.{Family, family, Only, Gone, Heeds}
 use Rattle.model.proofs.Tests.{refuted}
-use Rattle.propagation.specs.declared.records.Assignment.{Assignment}
 use Rattle.propagation.specs.Supports.{Inside}
-use Rattle.propagation.specs.Desks.{noted, Desk, Step, Held, Emptied}
-use Rattle.model.specs.Words.{base_of}
-use Rattle.propagation.specs.Bases.{Forced, Good}
+use Rattle.propagation.specs.Desks.{Emptied}
+use Rattle.propagation.specs.Bases.{Forced}
 use Rattle.propagation.proofs.Digits.{Cut, has_none, has_some, cut_stays, cut_inside, cut_other}
 use Rattle.propagation.proofs.Steps.{at_same, at_other}
 

@@ -1,5 +1,5 @@
 -- What a write or a read at a place of the ring does to the list that waits.
-use Rattle.std.proofs.Common.{◌≡◌, ℕ, suc, ◌+◌, ◌-◌, ◌<◌, ◌≤◌, ◌⊎◌, List, [], ◌∷◌, ◌++◌, length, get_or, take, drop, set, Ok, Err, Result, sym, refl, ap, ◌∙◌, inl, inr, add-one, arith, MatchResult}
+use Rattle.std.proofs.Common.{◌≡◌, ℕ, suc, ◌+◌, ◌-◌, ◌<◌, ◌≤◌, ◌⊎◌, List, [], ◌∷◌, ◌++◌, length, get_or, take, drop, set, Ok, Err, Result, sym, ap, ◌∙◌, inl, inr, arith, MatchResult}
 use lib.Seq.{take-set-lt}
 use Rattle.std.proofs.lemmas.List.{append-nil, append_assoc, length-take, length-drop, length-append, take_all, drop_all, take-append-le, take-set-le, take_more, take_more_set, drop-set-lt, drop-set-add, drop_more, set-append_left, set-append_right, nil_from_length}
 use Rattle.propagation.specs.declared.ring.Ring.{Ring}

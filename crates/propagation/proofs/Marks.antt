@@ -1,12 +1,11 @@
 -- Marks set and cleared, and the line that they go with. Assumes nothing.
-use Rattle.std.proofs.Common.{◌≡◌, ℕ, zero, suc, ◌+◌, ◌-◌, ◌*◌, ◌/◌, ◌%◌, ◌^◌, ◌<◌, ◌≤◌, Bool, true, false, cond, not, ◌&&◌, ◌||◌, eqb, ◌≢◌, ◌⊎◌, List, [], ◌∷◌, ◌++◌, length, get_or, set, sym, refl, ap, ◌∙◌, subst, inl, inr, arith}
-use Rattle.std.proofs.lemmas.Bool.{eqb-true, eq-eqb, ne_eqb, eqb-false, cases_eq, false≢true, both_ways, cases_Bool, or_cases, or_left, or_right, or_parts, or_from, and_from, and_parts}
+use Rattle.std.proofs.Common.{◌≡◌, ℕ, zero, suc, ◌+◌, ◌-◌, ◌*◌, ◌/◌, ◌%◌, ◌^◌, ◌<◌, ◌≤◌, Bool, true, false, not, ◌&&◌, ◌||◌, eqb, ◌≢◌, ◌⊎◌, List, [], ◌∷◌, ◌++◌, length, get_or, set, sym, refl, ap, ◌∙◌, subst, inl, inr, arith}
+use Rattle.std.proofs.lemmas.Bool.{eqb-true, eq-eqb, ne_eqb, cases_eq, false≢true, or_cases, or_left, or_right, or_parts, or_from}
 use Rattle.std.proofs.lemmas.List.{get_or-set_same, get_or-set_other, length_push}
 use Rattle.rules.specs.Channels.{has}
-use Rattle.model.proofs.Tests.{refuted}
 use Rattle.propagation.specs.Waits.{one_if, at_end, place, waits, marked, Once, Line}
 use Rattle.propagation.specs.declared.records.RuleEnd.{RuleEnd}
-use Rattle.propagation.proofs.Digits.{dig, minus_has, plus_has}
+use Rattle.propagation.proofs.Digits.{minus_has, plus_has}
 
 eqb_rest : (j e : ℕ) → j / 32 ≡ e / 32 → eqb (j % 32) (e % 32) ≡ eqb j e
 eqb_rest j e h = go (cases_eq j e)

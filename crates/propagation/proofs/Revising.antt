@@ -1,11 +1,11 @@
 -- What the look at one rule end gives. Assumes nothing.
-use Rattle.std.proofs.Common.{◌≡◌, ℕ, ◌<◌, ◌≤◌, Bool, true, false, ◌≢◌, ◌⊎◌, List, length, get_or, set, Some, None, Option, sym, refl, ap, ◌∙◌, subst, inl, inr, arith}
+use Rattle.std.proofs.Common.{◌≡◌, ℕ, ◌<◌, Bool, true, false, ◌≢◌, List, length, get_or, set, Some, None, Option, sym, ap, ◌∙◌, subst, inl, inr, arith}
 use Rattle.std.proofs.lemmas.Bool.{cases_eq}
 use Rattle.std.proofs.lemmas.List.{length-set, get_or-set_same}
 use Rattle.rules.specs.Meanings.{Meaning, Apart}
 use Rattle.rules.specs.Channels.{has}
 use Rattle.model.specs.Remains.{Family, family}
-use Rattle.propagation.specs.Supports.{Supported, Inside, near, far, allows, Kept, Backed}
+use Rattle.propagation.specs.Supports.{Supported, Inside, near, far, allows, Kept}
 use Rattle.propagation.proofs.Steps.{at_same, at_other}
 
 pub same_some : (o : Option (ℕ × ℕ)) (x y : ℕ × ℕ) → o ≡ Some x → o ≡ Some y → x ≡ y

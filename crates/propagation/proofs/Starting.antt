@@ -1,12 +1,12 @@
 -- Decisions and their sets. Assumes nothing.
-use Rattle.std.proofs.Common.{◌≡◌, ℕ, zero, suc, ◌+◌, ◌-◌, ◌/◌, ◌%◌, ◌^◌, ◌<◌, ◌≤◌, Bool, true, false, not, ◌&&◌, ◌||◌, eqb, ◌≢◌, ◌⊎◌, List, [], ◌∷◌, length, get_or, set, sym, refl, ap, ◌∙◌, subst, inl, inr, zero-add, arith}
+use Rattle.std.proofs.Common.{◌≡◌, ℕ, zero, suc, ◌/◌, ◌%◌, ◌^◌, ◌<◌, Bool, true, false, ◌&&◌, ◌||◌, eqb, ◌⊎◌, List, length, get_or, set, sym, refl, ap, ◌∙◌, subst, inl, inr, zero-add, arith}
 use Rattle.std.specs.List.{AllByRecursion}
 use Rattle.std.proofs.lemmas.Bool.{cases_eq, both_ways, and_parts, and_from, eqb-true, eq-eqb}
 use Rattle.rules.specs.Channels.{has}
 use Rattle.model.specs.Masks.{grp, chan}
 use Rattle.model.specs.Decisions.{Decision, taken, refused}
 use Rattle.model.specs.Words.{decision, branch_of}
-use Rattle.model.specs.Remains.{Family, family, Only, Gone, Obeys}
+use Rattle.model.specs.Remains.{Family, family, Only, Obeys}
 use Rattle.model.proofs.Tests.{refuted}
 use Rattle.propagation.specs.Supports.{Inside}
 use Rattle.propagation.proofs.Digits.{has_none, plus_has}

@@ -1,20 +1,20 @@
 -- What taking channels away from one group does. Assumes nothing.
-use Rattle.std.proofs.Common.{◌≡◌, ℕ, zero, suc, ◌+◌, ◌-◌, ◌*◌, ◌/◌, ◌%◌, ◌^◌, ◌<◌, ◌≤◌, Bool, true, false, not, ◌&&◌, ◌||◌, eqb, ◌≢◌, ◌⊎◌, List, [], ◌∷◌, ◌++◌, length, get_or, set, IfSome, Some, sum, sym, refl, ap, ◌∙◌, subst, inl, inr, arith}
+use Rattle.std.proofs.Common.{◌≡◌, ℕ, ◌+◌, ◌*◌, ◌^◌, ◌<◌, Bool, true, false, eqb, ◌≢◌, ◌⊎◌, List, length, get_or, set, IfSome, Some, sum, sym, refl, ap, ◌∙◌, subst, inl, inr, arith}
 use Rattle.std.proofs.lemmas.List.Sums.{sum_by-set}
-use Rattle.std.proofs.lemmas.Bool.{eqb-true, eq-eqb, ne_eqb, eqb-false, cases_eq, false≢true, both_ways, cases_Bool, or_cases, or_left, or_right, or_parts, or_from}
+use Rattle.std.proofs.lemmas.Bool.{eqb-true, eqb-false, cases_eq, both_ways, or_cases, or_parts}
 use Rattle.std.proofs.lemmas.List.{get_or-set_same, get_or-set_other, length-set}
 use Rattle.rules.specs.Meanings.{Meaning, Lawful, Apart}
 use Rattle.rules.specs.Channels.{has}
 use Rattle.model.specs.Masks.{grp, chan}
-use Rattle.model.specs.Remains.{Family, family, Only}
+use Rattle.model.specs.Remains.{family, Only}
 use Rattle.model.proofs.Tests.{refuted}
 use Rattle.propagation.specs.declared.records.RuleEnd.{RuleEnd}
 use Rattle.propagation.specs.declared.records.Assignment.{Assignment}
-use Rattle.propagation.specs.Waits.{waits, at_end, Line, Space}
-use Rattle.propagation.specs.Supports.{Supported, Inside, Still, Across, near, far, allows}
-use Rattle.propagation.specs.Desks.{assignment, noted, stands, Alone, Narrow, Settled, Desk, Held, Step, Two, Sole, Noting}
+use Rattle.propagation.specs.Waits.{waits, at_end}
+use Rattle.propagation.specs.Supports.{Supported, Inside, Still, Across, near, far}
+use Rattle.propagation.specs.Desks.{assignment, noted, stands, Narrow, Settled, Desk, Step, Noting}
 use Rattle.propagation.proofs.Digits.{has_more}
-use Rattle.propagation.proofs.Groups.{stands_push, noted_push, alone_push, stands_room}
+use Rattle.propagation.proofs.Groups.{stands_push, noted_push, alone_push}
 
 -- the groups of a rule that binds differ
 pub ends_apart : (m : Meaning) → Lawful m → (i : ℕ) (e : ℕ × ℕ) → m.ends i ≡ Some e → Apart m.groups e

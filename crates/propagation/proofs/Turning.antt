@@ -1,21 +1,21 @@
 -- One turn of the work. Assumes nothing.
-use Rattle.std.proofs.Common.{◌≡◌, ℕ, zero, suc, ◌+◌, ◌-◌, ◌*◌, ◌/◌, ◌<◌, ◌≤◌, Bool, true, false, ◌||◌, eqb, ◌≢◌, ◌⊎◌, List, [], ◌∷◌, ◌++◌, length, get_or, Some, None, sum, sym, refl, ap, ◌∙◌, subst, inl, inr, mul-le-mul_right, add-mul, one-mul, arith}
+use Rattle.std.proofs.Common.{◌≡◌, ℕ, ◌+◌, ◌*◌, ◌<◌, ◌≤◌, Bool, true, false, ◌≢◌, ◌⊎◌, List, [], ◌∷◌, length, Some, None, sum, sym, refl, ap, ◌∙◌, subst, inl, inr, mul-le-mul_right, add-mul, one-mul, arith}
 use Rattle.std.specs.List.{AllByRecursion}
 use Rattle.std.proofs.ByRecursion.{All-weaker}
-use Rattle.std.proofs.lemmas.Bool.{cases_eq, or_left, or_right, or_from, ne_eqb, eq-eqb}
+use Rattle.std.proofs.lemmas.Bool.{cases_eq, or_right, or_from, ne_eqb}
 use Rattle.rules.specs.Meanings.{Meaning}
-use Rattle.model.specs.Remains.{Family, family, Heeds}
+use Rattle.model.specs.Remains.{family, Heeds}
 use Rattle.model.proofs.Tests.{of_all}
 use Rattle.propagation.specs.declared.records.RuleEnd.{RuleEnd}
 use Rattle.propagation.specs.declared.records.Assignment.{Assignment}
-use Rattle.propagation.specs.Waits.{one_if, at_end, place, waits, Line, Space}
-use Rattle.propagation.specs.Supports.{Supported, Inside}
-use Rattle.propagation.specs.Desks.{noted, stands, Settled, Desk, Held, Step}
+use Rattle.propagation.specs.Waits.{at_end, place, waits}
+use Rattle.propagation.specs.Supports.{Supported}
+use Rattle.propagation.specs.Desks.{noted, Settled, Desk, Held, Step}
 use Rattle.propagation.specs.Bases.{Good, Spared}
-use Rattle.propagation.specs.Calms.{Calm, Agrees, Going, weight, Moved, Over}
+use Rattle.propagation.specs.Calms.{Calm, Agrees, weight}
 use Rattle.propagation.proofs.Marks.{line_few}
 use Rattle.propagation.proofs.Groups.{stands_few}
-use Rattle.propagation.proofs.Walking.{good_step, all_join}
+use Rattle.propagation.proofs.Walking.{all_join}
 
 -- the line of assignments without its first
 pub settled_rest : (ms : List ℕ) (f : Assignment) (s : List Assignment) → Settled ms (f ∷ s) → Settled ms s

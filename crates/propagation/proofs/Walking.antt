@@ -1,18 +1,16 @@
 -- The base part by part. Assumes nothing.
-use Rattle.std.proofs.Common.{◌≡◌, ℕ, zero, suc, ◌+◌, ◌-◌, ◌/◌, ◌<◌, ◌≤◌, Bool, true, false, ◌≢◌, ◌⊎◌, List, [], ◌∷◌, ◌++◌, length, get_or, take, drop, sym, refl, ap, ◌∙◌, subst, inl, inr, arith}
+use Rattle.std.proofs.Common.{◌≡◌, ℕ, ◌+◌, ◌-◌, ◌/◌, ◌<◌, ◌≤◌, false, ◌≢◌, List, [], ◌∷◌, ◌++◌, length, get_or, take, drop, sym, ap, ◌∙◌, subst, arith}
 use Rattle.std.specs.List.{AllByRecursion}
-use Rattle.std.proofs.lemmas.List.{length-drop, drop-drop, drop_more, take_all, drop_all, take_rest, take_at, drop_at, append_assoc, append-nil}
-use Rattle.std.proofs.ByRecursion.{All-get_or, All-from_get_or, All-weaker, All-push}
+use Rattle.std.proofs.lemmas.List.{length-drop, drop-drop, drop_more, take_all, drop_all, take_rest, append_assoc}
+use Rattle.std.proofs.ByRecursion.{All-weaker}
 use Rattle.rules.specs.Meanings.{Meaning}
-use Rattle.model.specs.Remains.{Family, family, Only, Gone, Heeds}
+use Rattle.model.specs.Remains.{family, Only, Gone}
 use Rattle.model.proofs.Tests.{refuted}
 use Rattle.std.proofs.lemmas.Bool.{both_ways}
-use Rattle.propagation.specs.declared.records.Assignment.{Assignment}
-use Rattle.propagation.specs.Supports.{Inside}
 use Rattle.propagation.specs.Desks.{noted, Desk, Step}
 use Rattle.model.specs.Words.{base_of}
 use Rattle.model.proofs.Bases.{base_cons}
-use Rattle.propagation.specs.Bases.{Forced, Good}
+use Rattle.propagation.specs.Bases.{Good}
 
 base_at : (ws : List ℕ) (p : ℕ) → p < length ws → base_of (drop p ws) ≡ take (get_or ws p 0) (drop (p + 1) ws) ∷ base_of (drop (get_or ws p 0) (drop (p + 1) ws))
 base_at ws p h = ap base_of (drop_more ws p 0 h) ∙ base_cons (get_or ws p 0) (drop (p + 1) ws)

@@ -1,10 +1,10 @@
 -- Chains of rule ends, made end by end. Assumes nothing.
-use Rattle.std.proofs.Common.{◌≡◌, ℕ, zero, suc, ◌+◌, ◌-◌, ◌*◌, ◌/◌, ◌%◌, ◌<◌, ◌≤◌, Bool, true, false, eqb, ◌≢◌, ◌⊎◌, List, length, get_or, set, replicate, Some, None, Option, sym, refl, ap, ◌∙◌, subst, inl, inr, arith}
+use Rattle.std.proofs.Common.{◌≡◌, ℕ, zero, suc, ◌+◌, ◌-◌, ◌*◌, ◌/◌, ◌%◌, ◌<◌, ◌≤◌, Bool, true, false, eqb, List, length, get_or, set, replicate, Some, None, sym, refl, ap, ◌∙◌, subst, inl, inr, arith}
 use Rattle.std.proofs.lemmas.Bool.{cases_eq, cases_lt, eq-eqb, ne_eqb}
 use Rattle.std.proofs.lemmas.List.{get_or-set_same, get_or-set_other, length-set}
 use Rattle.rules.specs.Meanings.{Meaning, Lawful}
 use Rattle.propagation.specs.Waits.{one_if, at_end}
-use Rattle.propagation.specs.Supports.{near, far}
+use Rattle.propagation.specs.Supports.{far}
 use Rattle.propagation.specs.Wires.{Facing, Chained, Wired}
 use Rattle.propagation.proofs.Revising.{same_some}
 use Rattle.propagation.proofs.Turning.{same_end}

@@ -1,5 +1,5 @@
 -- Nogoods that are heeded.
-use Rattle.std.specs.Prelude.{◌≡◌, ℕ, ◌/◌, ◌<◌, Bool, true, false, ◌≢◌, List, Some, None, Option}
+use Rattle.std.specs.Prelude.{◌≡◌, ℕ, ◌/◌, ◌<◌, false, ◌≢◌, List, Some, None, Option}
 use Rattle.std.specs.List.{AllByRecursion}
 use Rattle.model.specs.Remains.{Family, family, Only, Heeds}
 use Rattle.propagation.specs.declared.records.Assignment.{Assignment}

@@ -1,5 +1,5 @@
 -- What the work on a desk keeps: nothing is amiss but at what waits.
-use Rattle.std.specs.Prelude.{◌≡◌, ℕ, ◌+◌, ◌*◌, ◌<◌, Bool, true, false, List, length, sum}
+use Rattle.std.specs.Prelude.{◌≡◌, ℕ, ◌+◌, ◌*◌, ◌<◌, Bool, false, List, length, sum}
 use Rattle.std.specs.List.{AllByRecursion}
 use Rattle.rules.specs.Meanings.{Meaning}
 use Rattle.model.specs.Remains.{Family, family, Heeds}

@@ -2,7 +2,7 @@
 use Rattle.std.specs.Prelude.{◌≡◌, ℕ, ◌+◌, ◌*◌, ◌<◌, ◌≤◌, Bool, true, false, ◌||◌, ◌⊎◌, List, [], ◌∷◌, ◌++◌, length, sum, ◌==◌, ◌≢◌, slice_index}
 use Rattle.rules.specs.Meanings.{Meaning}
 use Rattle.rules.specs.Channels.{has}
-use Rattle.model.specs.Remains.{Family, family, Only}
+use Rattle.model.specs.Remains.{family, Only}
 use Rattle.propagation.specs.Waiting.{queued, size}
 use Rattle.propagation.specs.declared.ring.Ring.{Ring}
 use Rattle.propagation.specs.declared.records.RuleEnd.{RuleEnd}

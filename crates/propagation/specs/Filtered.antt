@@ -1,5 +1,5 @@
 -- What remains, in the meaning of a rule book.
-use Rattle.std.specs.Prelude.{◌≡◌, ℕ, ◌<◌, Bool, true, false, List, length}
+use Rattle.std.specs.Prelude.{◌≡◌, ℕ, ◌<◌, false, List, length}
 use Rattle.rules.specs.Meanings.{Meaning}
 use Rattle.model.specs.Decisions.{Decision}
 use Rattle.model.specs.Remains.{Family, family, Meets, Remains, Dead, Alive}

@@ -1,8 +1,7 @@
-use Rattle.std.proofs.Common.{◌≡◌, ℕ, ◌-◌, ◌*◌, ◌/◌, ◌%◌, ◌<◌, ◌≤◌, Bool, true, ◌||◌, eqb, length, get_or, sym, refl, ap, ◌∙◌, subst, inl, inr, arith}
+use Rattle.std.proofs.Common.{◌≡◌, ℕ, ◌-◌, ◌/◌, ◌%◌, true, eqb, sym, refl, ◌∙◌, subst, inl, inr, arith}
 use Rattle.std.proofs.lemmas.Bool.{cases_eq, cases_lt, eq-eqb, or_left, or_right}
-use Rattle.propagation.specs.Waiting.{queued, size}
+use Rattle.propagation.specs.Waiting.{queued}
 use Rattle.propagation.specs.Waits.{waits, at_end, Line}
-use Rattle.propagation.specs.Wires.{Facing}
 use Rattle.propagation.proofs.Wiring.{facing_below, number_end}
 use Rattle.propagation.proofs.across.queue_across.Goals as goal
 

@@ -1,4 +1,4 @@
-use Rattle.std.proofs.Common.{ℕ, ◌^◌, ◌<◌, arith}
+use Rattle.std.proofs.Common.{◌^◌, ◌<◌, arith}
 use lib.Count.{count_trailing_zeros}
 use Rattle.propagation.proofs.Digits.{trailing_has, has_below}
 use Rattle.propagation.proofs.bits.lowest.Goals as goal

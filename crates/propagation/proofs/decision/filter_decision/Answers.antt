@@ -1,7 +1,7 @@
-use Rattle.std.proofs.Common.{◌≡◌, ℕ, ◌-◌, ◌/◌, ◌^◌, ◌<◌, length, get_or, set, sym, refl, ap, ◌∙◌, subst, arith}
+use Rattle.std.proofs.Common.{◌≡◌, ℕ, ◌-◌, ◌/◌, ◌^◌, ◌<◌, length, get_or, sym, ap, ◌∙◌, subst, arith}
 use Rattle.std.specs.List.{AllByRecursion}
 use Rattle.model.specs.Words.{base_of, branch_of}
-use Rattle.model.specs.Remains.{Family, family}
+use Rattle.model.specs.Remains.{family}
 use Rattle.propagation.specs.Bases.{Grouped}
 use Rattle.propagation.proofs.Filtering.{agrees_of, doomed, doomed_dies, lives}
 use Rattle.propagation.proofs.Starting.{taken_inside}

@@ -1,13 +1,13 @@
-use Rattle.std.proofs.Common.{◌≡◌, ℕ, ◌^◌, ◌<◌, ◌≤◌, List, length, get_or, set, sym, refl, ap, ◌∙◌, subst, arith}
+use Rattle.std.proofs.Common.{◌≡◌, ℕ, List, length, get_or, sym, ap, ◌∙◌, subst, arith}
 use Rattle.std.specs.List.{AllByRecursion}
-use Rattle.std.proofs.lemmas.Bool.{true≢false, false≢true}
+use Rattle.std.proofs.lemmas.Bool.{false≢true}
 use Rattle.std.proofs.ByRecursion.{All-weaker}
 use Rattle.std.proofs.lemmas.List.{length-set, get_or-set_same}
-use Rattle.propagation.specs.Waiting.{queued, size}
+use Rattle.propagation.specs.Waiting.{queued}
 use Rattle.model.specs.Words.{base_of}
-use Rattle.model.specs.Remains.{Family, family}
+use Rattle.model.specs.Remains.{family}
 use Rattle.propagation.specs.Supports.{Inside}
-use Rattle.propagation.specs.Desks.{desk, Held}
+use Rattle.propagation.specs.Desks.{desk}
 use Rattle.propagation.specs.Bases.{Grouped, Good}
 use Rattle.propagation.proofs.Walking.{good_step}
 use Rattle.propagation.proofs.Turning.{calm_step}

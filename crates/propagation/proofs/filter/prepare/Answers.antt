@@ -1,6 +1,6 @@
-use Rattle.std.proofs.Common.{◌≡◌, ℕ, List, sym, refl, ap, ◌∙◌, subst}
+use Rattle.std.proofs.Common.{ℕ, List, sym, subst}
 use Rattle.std.proofs.lemmas.Bool.{not-true, not-false, both_ways}
-use Rattle.model.specs.Remains.{Family, family}
+use Rattle.model.specs.Remains.{family}
 use Rattle.propagation.specs.Supports.{Inside}
 use Rattle.propagation.proofs.filter.prepare.Goals as goal
 

@@ -1,10 +1,9 @@
-use Rattle.std.proofs.Common.{◌≡◌, ℕ, ◌<◌, Bool, true, false, List, length, sym, refl, ap, ◌∙◌, subst, arith}
+use Rattle.std.proofs.Common.{◌≡◌, ℕ, length, sym, ◌∙◌, subst, arith}
 use Rattle.std.specs.List.{AllByRecursion}
-use Rattle.std.proofs.lemmas.Bool.{true≢false, false≢true}
-use Rattle.propagation.specs.Waiting.{queued, size}
-use Rattle.model.specs.Remains.{Family, family}
-use Rattle.propagation.specs.Waits.{Line, Space, waits, at_end}
-use Rattle.propagation.specs.Desks.{desk, Held}
+use Rattle.std.proofs.lemmas.Bool.{false≢true}
+use Rattle.propagation.specs.Waiting.{queued}
+use Rattle.propagation.specs.Waits.{Line}
+use Rattle.propagation.specs.Desks.{desk}
 use Rattle.model.specs.Words.{base_of}
 use Rattle.propagation.specs.Bases.{Grouped}
 use Rattle.propagation.proofs.Turning.{calm_step, spare_none}

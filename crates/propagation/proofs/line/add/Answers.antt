@@ -1,5 +1,5 @@
-use Rattle.std.proofs.Common.{◌≡◌, ℕ, ◌*◌, ◌<◌, Bool, true, false, ◌||◌, eqb, List, [], ◌∷◌, ◌++◌, length, sym, ap, ◌∙◌, subst, arith, rules}
-use Rattle.propagation.specs.Waiting.{queued, size}
+use Rattle.std.proofs.Common.{◌≡◌, ℕ, false, ◌||◌, eqb, List, [], ◌∷◌, ◌++◌, sym, ap, ◌∙◌, subst, arith}
+use Rattle.propagation.specs.Waiting.{queued}
 use Rattle.propagation.proofs.Lines.{either_way}
 use Rattle.propagation.specs.Waits.{Line, place, marked, waits}
 use Rattle.propagation.proofs.Marks.{line_push, line_room, waits_push}

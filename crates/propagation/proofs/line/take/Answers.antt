@@ -1,6 +1,6 @@
-use Rattle.std.proofs.Common.{◌≡◌, ℕ, ◌*◌, ◌<◌, Bool, true, false, not, ◌&&◌, eqb, sym, ap, ◌∙◌, subst, arith}
+use Rattle.std.proofs.Common.{ℕ, not, ◌&&◌, eqb, ap, ◌∙◌, arith}
 use Rattle.propagation.specs.Waiting.{queued}
-use Rattle.propagation.specs.Waits.{Line, place, marked}
+use Rattle.propagation.specs.Waits.{marked}
 use Rattle.propagation.proofs.Marks.{first_marked, first_below, line_rest, line_split, place_below}
 use Rattle.propagation.proofs.line.take.Goals as goal
 

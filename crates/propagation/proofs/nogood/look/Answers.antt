@@ -1,8 +1,7 @@
-use Rattle.std.proofs.Common.{◌≡◌, ℕ, ◌/◌, ◌^◌, ◌<◌, length, get_or, sym, refl, ap, ◌∙◌, subst, arith}
+use Rattle.std.proofs.Common.{◌≡◌, ℕ, ◌/◌, ◌<◌, length, get_or, sym, subst, arith}
 use Rattle.std.proofs.ByRecursion.{All-get_or}
 use Rattle.std.proofs.lemmas.Bool.{true≢false}
-use Rattle.model.specs.Remains.{Family, family, Gone}
-use Rattle.propagation.specs.Supports.{Inside}
+use Rattle.model.specs.Remains.{family, Gone}
 use Rattle.propagation.specs.Bases.{Forced}
 use Rattle.propagation.specs.Desks.{desk}
 use Rattle.propagation.proofs.Digits.{has_some}

@@ -1,4 +1,4 @@
-use Rattle.std.proofs.Common.{◌≡◌, ℕ, ◌/◌, ◌<◌, ◌≢◌, length, get_or, refl, arith}
+use Rattle.std.proofs.Common.{◌/◌, ◌<◌, ◌≢◌, length, refl, arith}
 use Rattle.std.proofs.lemmas.Bool.{false≢true, both_ways}
 use Rattle.std.proofs.ByRecursion.{All-get_or, All-from_get_or}
 use Rattle.model.specs.Remains.{family, Only}

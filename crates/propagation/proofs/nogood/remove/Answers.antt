@@ -1,4 +1,4 @@
-use Rattle.std.proofs.Common.{◌≡◌, ◌/◌, refl, arith}
+use Rattle.std.proofs.Common.{◌/◌, refl}
 use Rattle.propagation.proofs.Heeding.{remove_gone, remove_within, remove_dead}
 use Rattle.propagation.proofs.nogood.remove.Goals as goal
 

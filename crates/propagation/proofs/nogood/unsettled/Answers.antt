@@ -1,4 +1,4 @@
-use Rattle.std.proofs.Common.{ℕ, ◌/◌, ◌<◌, length, get_or, arith}
+use Rattle.std.proofs.Common.{◌/◌, ◌<◌, length, arith}
 use Rattle.std.proofs.ByRecursion.{All-get_or}
 use Rattle.propagation.proofs.nogood.unsettled.Goals as goal
 

@@ -1,4 +1,4 @@
-use Rattle.std.proofs.Common.{◌≡◌, get_or, sym}
+use Rattle.std.proofs.Common.{sym}
 use Rattle.propagation.proofs.Steps.{ends_apart}
 use Rattle.propagation.proofs.Revising.{looked_within, looked_done, looked_dead}
 use Rattle.propagation.proofs.revise.revise.Goals as goal

@@ -1,10 +1,8 @@
-use Rattle.std.proofs.Common.{◌≡◌, ℕ, ◌^◌, ◌<◌, Bool, true, false, ◌⊎◌, List, [], ◌∷◌, ◌++◌, sym, refl, ap, ◌∙◌, subst, inl, inr, arith, rules}
+use Rattle.std.proofs.Common.{◌≡◌, ℕ, ◌^◌, ◌<◌, true, sym, refl, subst, inl, inr, arith}
 use Rattle.std.proofs.lemmas.Bool.{both_ways, cases_eq}
 use Rattle.rules.specs.Channels.{has}
-use Rattle.propagation.specs.Waiting.{queued, size}
+use Rattle.propagation.specs.Waiting.{queued}
 use Rattle.propagation.proofs.Lines.{either_way}
-use Rattle.propagation.specs.Desks.{Noting, Two, Sole, assignment}
-use Rattle.propagation.specs.declared.records.Assignment.{Assignment}
 use Rattle.propagation.proofs.Digits.{has_some, cut_inside, cut_other, cut_stays, has_none}
 use Rattle.propagation.proofs.shrink.settle.Goals as goal
 

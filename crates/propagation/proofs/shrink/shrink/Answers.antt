@@ -1,9 +1,8 @@
-use Rattle.std.proofs.Common.{◌≡◌, ℕ, ◌^◌, ◌<◌, ◌≤◌, ◌⊎◌, length, get_or, set, sym, refl, ap, ◌∙◌, subst, inl, inr, arith}
+use Rattle.std.proofs.Common.{◌≡◌, ◌^◌, ◌<◌, length, get_or, set, sym, refl, ap, ◌∙◌, inr, arith}
 use Rattle.std.proofs.lemmas.Bool.{true≢false}
 use Rattle.std.proofs.lemmas.List.{length-set, set-get_or}
-use Rattle.propagation.specs.Waiting.{queued, size}
-use Rattle.propagation.specs.Desks.{Held, Step, assignment, desk}
-use Rattle.propagation.specs.Waits.{Space}
+use Rattle.propagation.specs.Waiting.{queued}
+use Rattle.propagation.specs.Desks.{assignment, desk}
 use Rattle.propagation.proofs.Steps.{not_standing, shrink_settled, shrink_assignments, shrink_ends, shrink_falls, set_inside, set_alive, step_same}
 use Rattle.propagation.proofs.Groups.{stands_room}
 use Rattle.propagation.proofs.Digits.{has_some}

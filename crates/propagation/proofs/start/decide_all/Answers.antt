@@ -1,4 +1,4 @@
-use Rattle.std.proofs.Common.{ℕ, ◌<◌, length, get_or, arith, below_more}
+use Rattle.std.proofs.Common.{ℕ, get_or, arith, below_more}
 use Rattle.model.specs.Words.{decision}
 use Rattle.model.specs.Remains.{family, Obeys}
 use Rattle.propagation.proofs.Starting.{obeys_inside}

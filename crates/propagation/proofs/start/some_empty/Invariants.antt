@@ -1,4 +1,4 @@
-use Rattle.std.proofs.Common.{◌≡◌, ℕ, ◌<◌, length, get_or}
+use Rattle.std.proofs.Common.{◌≡◌, ℕ, ◌<◌, get_or}
 use Rattle.propagation.proofs.start.some_empty.Given as goal
 
 abbrev pub invariant-loop-g : goal.invariant-loop-g

@@ -1,4 +1,4 @@
-use Rattle.std.proofs.Common.{◌≡◌, ℕ, ◌<◌, true}
+use Rattle.std.proofs.Common.{◌≡◌, ℕ, true}
 use Rattle.rules.specs.Channels.{has}
 use Rattle.propagation.specs.Supports.{allows}
 use Rattle.propagation.proofs.support.backed.Given as goal

@@ -1,8 +1,8 @@
-use Rattle.std.proofs.Common.{◌≡◌, ℕ, ◌<◌, ◌≤◌, Bool, true, false, not, ◌&&◌, ◌⊎◌, sym, ap, ◌∙◌, subst, inl, inr, arith}
+use Rattle.std.proofs.Common.{◌≡◌, ℕ, true, sym, subst, inl, inr, arith}
 use Rattle.std.proofs.lemmas.Bool.{both_ways, cases_eq, cases_Bool}
 use Rattle.rules.specs.Channels.{has}
 use Rattle.propagation.specs.Supports.{Backed}
-use Rattle.propagation.proofs.Digits.{has_none, cut_stays}
+use Rattle.propagation.proofs.Digits.{cut_stays}
 use Rattle.propagation.proofs.support.kept_at.Goals as goal
 
 pub loop-left-preserved : goal.loop-left-preserved

@@ -1,4 +1,4 @@
-use Rattle.std.proofs.Common.{◌≡◌, ℕ, ◌<◌, ◌≤◌, true, false}
+use Rattle.std.proofs.Common.{◌≡◌, ℕ, ◌≤◌, true, false}
 use Rattle.rules.specs.Channels.{has}
 use Rattle.propagation.specs.Supports.{Backed}
 use Rattle.propagation.proofs.support.kept_at.Given as goal

@@ -1,12 +1,11 @@
-use Rattle.std.proofs.Common.{◌≡◌, ℕ, ◌+◌, ◌-◌, ◌/◌, ◌<◌, ◌≤◌, Bool, true, false, List, [], ◌∷◌, ◌++◌, length, get_or, take, drop, sym, refl, ap, ◌∙◌, subst, arith}
+use Rattle.std.proofs.Common.{◌≡◌, ℕ, ◌+◌, ◌-◌, List, [], ◌∷◌, ◌++◌, length, take, drop, sym, ap, ◌∙◌, subst, arith}
 use Rattle.std.specs.List.{AllByRecursion}
 use Rattle.std.proofs.lemmas.List.{append-nil}
 use Rattle.std.proofs.ByRecursion.{All-weaker, All-push}
 use Rattle.std.proofs.lemmas.Bool.{true≢false, false≢true}
 use Rattle.propagation.specs.Waiting.{queued}
-use Rattle.model.specs.Remains.{Family, family, Heeds}
-use Rattle.propagation.specs.Supports.{Inside}
-use Rattle.propagation.specs.Desks.{desk, Held, Step}
+use Rattle.model.specs.Remains.{Heeds}
+use Rattle.propagation.specs.Desks.{desk}
 use Rattle.model.specs.Words.{base_of}
 use Rattle.propagation.specs.Bases.{Good, Grouped, Spared}
 use Rattle.propagation.proofs.Steps.{step_then}

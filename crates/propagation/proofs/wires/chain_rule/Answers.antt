@@ -1,4 +1,4 @@
-use Rattle.std.proofs.Common.{◌≡◌, ℕ, ◌+◌, ◌*◌, true, false, Some, None, sym, subst, arith}
+use Rattle.std.proofs.Common.{◌≡◌, ℕ, ◌+◌, ◌*◌, true, false, None, sym, subst, arith}
 use Rattle.propagation.specs.Wires.{Facing, Chained}
 use Rattle.propagation.proofs.Wiring.{chained_skip, facing_none}
 use Rattle.propagation.proofs.wires.chain_rule.Goals as goal

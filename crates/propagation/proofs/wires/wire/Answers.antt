@@ -1,4 +1,4 @@
-use Rattle.std.proofs.Common.{◌≡◌, ℕ, List, length, get_or, ap, ◌∙◌, arith}
+use Rattle.std.proofs.Common.{ℕ, List, length, get_or, ap, ◌∙◌, arith}
 use Rattle.propagation.proofs.Wiring.{zeros, chained_none, chained_wired}
 use Rattle.propagation.proofs.wires.wire.Goals as goal
 

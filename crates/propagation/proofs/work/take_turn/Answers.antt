@@ -1,15 +1,14 @@
-use Rattle.std.proofs.Common.{◌≡◌, ℕ, ◌+◌, ◌-◌, ◌<◌, ◌≤◌, Bool, true, false, List, [], ◌∷◌, ◌++◌, length, sym, refl, ap, ◌∙◌, subst, arith}
+use Rattle.std.proofs.Common.{◌≡◌, ℕ, List, ◌∷◌, length, sym, refl, ap, ◌∙◌, subst, arith}
 use Rattle.std.specs.List.{AllByRecursion}
 use Rattle.std.proofs.ByRecursion.{All-weaker}
-use Rattle.propagation.specs.Waiting.{queued, size}
-use Rattle.model.specs.Remains.{Family, family, Heeds}
+use Rattle.propagation.specs.Waiting.{queued}
 use Rattle.propagation.specs.declared.records.RuleEnd.{RuleEnd}
 use Rattle.propagation.specs.declared.records.Assignment.{Assignment}
 use Rattle.propagation.specs.Waits.{Line}
-use Rattle.propagation.specs.Desks.{desk, Held, Step, Settled}
+use Rattle.propagation.specs.Desks.{desk, Settled}
 use Rattle.model.specs.Words.{base_of}
 use Rattle.propagation.specs.Bases.{Good}
-use Rattle.propagation.specs.Calms.{Calm, Agrees, Going, Moved, Over}
+use Rattle.propagation.specs.Calms.{Calm}
 use Rattle.propagation.proofs.Walking.{good_step}
 use Rattle.propagation.proofs.Turning.{spare, settled_from, weight_falls, calm_step, calm_looked, all_done}
 use Rattle.propagation.proofs.work.take_turn.Goals as goal

@@ -1,7 +1,7 @@
-use Rattle.std.proofs.Common.{◌≡◌, ℕ, List, length, sym, refl, ap, ◌∙◌, subst, arith}
+use Rattle.std.proofs.Common.{◌≡◌, ℕ, List, length, sym, subst, arith}
 use Rattle.std.specs.List.{AllByRecursion}
 use Rattle.std.proofs.lemmas.Bool.{true≢false, false≢true}
-use Rattle.model.specs.Remains.{Family, family}
+use Rattle.model.specs.Remains.{family}
 use Rattle.propagation.specs.Supports.{Inside}
 use Rattle.model.specs.Words.{base_of}
 use Rattle.propagation.specs.Bases.{Grouped}

@@ -1,4 +1,3 @@
-use Rattle.std.proofs.Common.{ℕ, ◌<◌, ◌≤◌}
 use Rattle.model.specs.Remains.{Family, family}
 use Rattle.propagation.specs.Supports.{Inside}
 use Rattle.propagation.specs.Desks.{desk, Held}

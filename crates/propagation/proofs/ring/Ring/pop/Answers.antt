@@ -1,4 +1,4 @@
-use Rattle.std.proofs.Common.{◌<◌, length, refl, inl, inr, arith}
+use Rattle.std.proofs.Common.{length, refl, inl, inr, arith}
 use Rattle.propagation.proofs.Lines.{Start, Count, empty_line, pop_line}
 use Rattle.propagation.proofs.ring.Ring.pop.Goals as goal
 use Rattle.propagation.proofs.ring.Ring.pop.Goals.{then-self-n, else-self-n, then-self-n-2, else-self-n-2}
