@@ -15,7 +15,7 @@ use rules::refusal::Refusal;
 
 // Opens a search on lists and book, with an empty branch and an empty base.
 pub fn open<B: RuleBook>(lists: &[u64], book: &B) -> Result<OpenSearch, Refusal>
-    ensures { MatchResult result (Opened (meaning book.now) lists.now) (Unopened (meaning book.now) lists.now) }
+    ensures { MatchResult result (Opened (B.meaning book.now) lists.now) (Unopened (B.meaning book.now) lists.now) }
 {
     if let Some(refusal) = vet_open(lists, book) {
         return Err(refusal);
@@ -113,7 +113,7 @@ pub fn restart<P: RestartPolicy>(
     branch: &[u32],
     base: &mut [u32],
 ) -> Result<OpenSearch, (Refusal, OpenSearch)>
-    ensures { RestartAnswers meaning held «search» lists.now branch.now base.old base.new policy.old policy.new result }
+    ensures { RestartAnswers P.meaning P.held «search» lists.now branch.now base.old base.new policy.old policy.new result }
 {
     if let Some(refusal) = vet_restart(&search, lists, branch, base) {
         return Err((refusal, search));

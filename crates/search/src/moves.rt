@@ -42,7 +42,7 @@ pub(crate) fn restart<P: RestartPolicy>(
     requires counted { Counted 1 at.old }
     ensures numbers { at.new ≡ restarted_at branch.now at.old }
     ensures words { base.new ≡ take at.old.base_used base.old ++ (recorded (reduced (branch_of branch.now at.old.branch_len)) ++ drop at.new.base_used base.old) }
-    ensures policy { held policy.new ≡ meaning.next (held policy.old) }
+    ensures policy { P.held policy.new ≡ P.meaning.next (P.held policy.old) }
 {
     let used = record_nogoods(base, at.base_used as usize, branch, at.branch_len as usize);
     policy.advance();
@@ -65,7 +65,7 @@ pub(crate) fn decide<O: Order>(
     requires room { at.old.branch_len < length branch.old }
     requires few { at.old.branch_len < 12800 }
     requires counted { Counted 1 at.old }
-    ensures decides { Decides meaning (held order.old) (held order.new) domains.now at.old at.new branch.old branch.new }
+    ensures decides { Decides O.meaning (O.held order.old) (O.held order.new) domains.now at.old at.new branch.old branch.new }
 {
     if let Some((group, channel)) = pick(order, domains) {
         branch[at.branch_len as usize] = 64 * group as u32 + channel as u32;

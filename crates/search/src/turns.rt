@@ -29,7 +29,7 @@ fn turn_dead<O: Order>(order: &mut O, left: u32, at: &mut Progress, branch: &mut
     requires within { at.old.branch_len ≤ length branch.old }
     requires short { at.old.branch_len ≤ 12800 }
     requires counted { Counted left at.old }
-    ensures turn { (base : List ℕ) → DeadTurn meaning left (held order.old) (held order.new) (state_of at.old branch.old base) (state_of at.new branch.new base) result }
+    ensures turn { (base : List ℕ) → DeadTurn O.meaning left (O.held order.old) (O.held order.new) (state_of at.old branch.old base) (state_of at.new branch.new base) result }
     ensures used { at.new.base_used ≡ at.old.base_used }
     ensures shorter { at.new.branch_len ≤ at.old.branch_len }
     ensures past { drop at.old.branch_len branch.new ≡ drop at.old.branch_len branch.old }
@@ -53,8 +53,8 @@ fn is_due<P: RestartPolicy>(policy: &P, at: &Progress, branch: &[u32], base: &[u
     requires short { at.now.branch_len ≤ 12800 }
     requires used { at.now.base_used ≤ length base.now }
     requires words { take at.now.base_used base.now ≡ recorded (base_of (take at.now.base_used base.now)) }
-    ensures yes { result ≡ true → DueAt meaning (held policy.now) (length base.now) (state_of at.now branch.now base.now) }
-    ensures no { result ≡ false → DueAt meaning (held policy.now) (length base.now) (state_of at.now branch.now base.now) → ⊥ }
+    ensures yes { result ≡ true → DueAt P.meaning (P.held policy.now) (length base.now) (state_of at.now branch.now base.now) }
+    ensures no { result ≡ false → DueAt P.meaning (P.held policy.now) (length base.now) (state_of at.now branch.now base.now) → ⊥ }
 {
     if policy.cutoff() > at.since {
         return false;
@@ -114,13 +114,13 @@ fn refresh<B: RuleBook>(
     settled: &mut [Assignment],
 ) -> bool
     requires fit { Fit lists.now at.now branch.now base.now }
-    requires groups { (meaning book.now).groups ≡ length lists.now }
-    requires rules { (meaning book.now).count ≤ 4096 }
-    requires roomy { Roomy (length lists.now) (meaning book.now).count (length domains.old) (length marks.old) (length ends.old) (length settled.old) }
-    requires fresh { decided ≡ true → Fresh lists.now (meaning book.now) at.now branch.now base.now domains.old }
-    ensures dead { result ≡ false → Dies lists.now (meaning book.now) (base_of (take at.now.base_used base.now)) (branch_of branch.now at.now.branch_len) }
-    ensures lives { result ≡ true → Lives lists.now (meaning book.now) (base_of (take at.now.base_used base.now)) (branch_of branch.now at.now.branch_len) (take (length lists.now) domains.new) }
-    ensures beyond { Beyond (length lists.now) (meaning book.now).count domains.old domains.new marks.old marks.new ends.old ends.new settled.old settled.new }
+    requires groups { (B.meaning book.now).groups ≡ length lists.now }
+    requires rules { (B.meaning book.now).count ≤ 4096 }
+    requires roomy { Roomy (length lists.now) (B.meaning book.now).count (length domains.old) (length marks.old) (length ends.old) (length settled.old) }
+    requires fresh { decided ≡ true → Fresh lists.now (B.meaning book.now) at.now branch.now base.now domains.old }
+    ensures dead { result ≡ false → Dies lists.now (B.meaning book.now) (base_of (take at.now.base_used base.now)) (branch_of branch.now at.now.branch_len) }
+    ensures lives { result ≡ true → Lives lists.now (B.meaning book.now) (base_of (take at.now.base_used base.now)) (branch_of branch.now at.now.branch_len) (take (length lists.now) domains.new) }
+    ensures beyond { Beyond (length lists.now) (B.meaning book.now).count domains.old domains.new marks.old marks.new ends.old ends.new settled.old settled.new }
 {
     let len = at.branch_len as usize;
     let used = at.base_used as usize;

@@ -191,7 +191,7 @@ fn allowance_fits(allowance: u32) -> bool
 
 // Why an open is refused.
 pub(crate) fn vet_open<B: RuleBook>(lists: &[u64], book: &B) -> Option<Refusal>
-    ensures { MatchOption result (open_refusal (opening lists.now (meaning book.now).groups (meaning book.now).count) ≡ None) (λ e. open_refusal (opening lists.now (meaning book.now).groups (meaning book.now).count) ≡ Some (told e)) }
+    ensures { MatchOption result (open_refusal (opening lists.now (B.meaning book.now).groups (B.meaning book.now).count) ≡ None) (λ e. open_refusal (opening lists.now (B.meaning book.now).groups (B.meaning book.now).count) ≡ Some (told e)) }
 {
     if !counts_agree(lists.len(), book.groups(), book.count()) {
         return Some(Refusal::Counts);
@@ -231,7 +231,7 @@ pub(crate) fn vet_sitting<B: RuleBook>(
     branch: &[u32],
     base: &[u32],
 ) -> Option<Refusal>
-    ensures { MatchOption result (sitting_refusal (asking «search».now.groups «search».now.at lists.now (meaning book.now).groups (meaning book.now).count allowance sizes branch.now base.now) ≡ None) (λ e. sitting_refusal (asking «search».now.groups «search».now.at lists.now (meaning book.now).groups (meaning book.now).count allowance sizes branch.now base.now) ≡ Some (told e)) }
+    ensures { MatchOption result (sitting_refusal (asking «search».now.groups «search».now.at lists.now (B.meaning book.now).groups (B.meaning book.now).count allowance sizes branch.now base.now) ≡ None) (λ e. sitting_refusal (asking «search».now.groups «search».now.at lists.now (B.meaning book.now).groups (B.meaning book.now).count allowance sizes branch.now base.now) ≡ Some (told e)) }
 {
     let rules = book.count();
     if !counts_fit(lists.len(), book.groups(), rules, search.groups) {

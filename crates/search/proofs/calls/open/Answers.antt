@@ -10,7 +10,7 @@ pub returns : goal.returns
 returns g c =
     let lists = c.args.lists.now in
     let book = g.B.RuleBook.meaning c.args.book.now in
-    let accepted = c.in-default.ensures in
+    let accepted = c.in_default.ensures in
     let run : Run lists book unsettled start = opened (opening lists book.groups book.count) refl (record { groups = refl; rules = refl }) accepted in
     record {
       accepted = accepted;

@@ -27,14 +27,14 @@ returns-in-Some g c =
 
 pub restart-requires : goal.restart-requires
 restart-requires g c =
-    let y = ready_restart c.args.search c.args.lists.now c.args.branch.now c.args.base.now c.in-default.ensures in
+    let y = ready_restart c.args.search c.args.lists.now c.args.branch.now c.args.base.now c.in_default.ensures in
     let f = y.fit in
     record { within = omega (arith, f.branch_in, f.branch_room); few = omega (arith, f.branch_in, f.few); room = y.space; short = f.base_room; counted = y.counted }
 
-pub invariant-of-result : goal.invariant-of-result
-invariant-of-result g c =
+pub invariant_of-result : goal.invariant_of-result
+invariant_of-result g c =
     let p = c.args.search.at in
-    let y = ready_restart c.args.search c.args.lists.now c.args.branch.now c.args.base.now c.in-default.ensures in
+    let y = ready_restart c.args.search c.args.lists.now c.args.branch.now c.args.base.now c.in_default.ensures in
     let k = y.counted in
     let e = c.restart.ensures.numbers in
     let new = length (recorded (reduced (branch_of c.args.branch.now p.branch_len))) in
@@ -49,7 +49,7 @@ invariant-of-result g c =
     let m' = k.moves in
     let d' = k.closings in
     let r' = k.restarts in
-    (c.args.search.sized, (omega arith, (omega arith, (omega arith, (omega arith, (omega arith, (omega arith, tt)))))))
+    record { sized = c.args.search.sized; within = omega arith; used = omega arith; counted = omega arith; closed = omega arith; restarted = omega arith; lately = omega arith }
 
 pub returns : goal.returns
 returns g c =
@@ -59,7 +59,7 @@ returns g c =
     let ws = c.args.branch.now in
     let bs = c.args.base.now in
     let bs' = c.restart.new.base in
-    let y = ready_restart search lists ws bs c.in-default.ensures in
+    let y = ready_restart search lists ws bs c.in_default.ensures in
     let f = y.fit in
     let e = c.restart.ensures in
     let new = recorded (reduced (branch_of ws p.branch_len)) in
@@ -71,7 +71,7 @@ returns g c =
     let space = y.space in
     let kept = c.restart.auto.base in
     record {
-      accepted = c.in-default.ensures;
+      accepted = c.in_default.ensures;
       groups = refl;
       state = state;
       words = words;
@@ -79,5 +79,5 @@ returns g c =
       past = ap (λ k. drop k bs') used ∙ past_words p ws bs bs' f.base_in f.words wrote ∙ ap (λ k. drop k bs) (sym used);
       policy = e.policy;
       next = λ xs. found_open search.groups c.restart.new.at lists 0 0 0 (record { domains = 0; marks = 0; ends = 0; settled = 0; plan = 0 }) xs bs' (restarting (state_of p ws bs)) y.searched (state xs) words (omega arith);
-      continues = λ book law. restart_continues lists book law (state_of p ws bs) (recall search lists ws bs) (restart_stands (recall search lists ws bs) p.closings p.restarts c.in-default.ensures) c.in-default.ensures;
+      continues = λ book law. restart_continues lists book law (state_of p ws bs) (recall search lists ws bs) (restart_stands (recall search lists ws bs) p.closings p.restarts c.in_default.ensures) c.in_default.ensures;
     }

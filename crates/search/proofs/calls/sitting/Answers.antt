@@ -17,7 +17,7 @@ use Rattle.search.proofs.calls.sitting.Goals as goal
 pub moves-init : goal.moves-init
 moves-init g c =
     let found = lent c.args.domains.now c.args.branch.now c.args.marks.now c.args.ends.now c.args.settled.now c.args.plan.now c.args.base.now c.args.order.now c.args.policy.now in
-    let r = ready (g.B.RuleBook.meaning c.args.book.now) c.args.search c.args.lists.now c.args.allowance found c.in-default.ensures in
+    let r = ready (g.B.RuleBook.meaning c.args.book.now) c.args.search c.args.lists.now c.args.allowance found c.in_default.ensures in
     record {
       events = [];
       restarts = 0;
@@ -36,7 +36,7 @@ moves-init g c =
 pub turn-step-requires : goal.turn-step-requires
 turn-step-requires g c =
     let found = lent c.args.domains.now c.args.branch.now c.args.marks.now c.args.ends.now c.args.settled.now c.args.plan.now c.args.base.now c.args.order.now c.args.policy.now in
-    let r = ready (g.B.RuleBook.meaning c.args.book.now) c.args.search c.args.lists.now c.args.allowance found c.in-default.ensures in
+    let r = ready (g.B.RuleBook.meaning c.args.book.now) c.args.search c.args.lists.now c.args.allowance found c.in_default.ensures in
     let i = c.moves.invariant in
     let k = c.moves.auto in
     record {
@@ -85,18 +85,18 @@ returns-in-None g c =
     let here = lent c.moves.domains c.moves.branch c.moves.marks c.moves.ends c.moves.settled c.moves.plan c.moves.base c.moves.order c.moves.policy in
     let next = lent c.turn-step.new.domains c.turn-step.new.branch c.turn-step.new.marks c.turn-step.new.ends c.turn-step.new.settled c.moves.plan c.turn-step.new.base c.turn-step.new.order c.turn-step.new.policy in
     let r = comes g.O.Order.meaning g.met.O.Order.lawful g.P.RestartPolicy.meaning g.met.P.RestartPolicy.lawful g.O.Order.held g.P.RestartPolicy.held (g.B.RuleBook.meaning c.args.book.now) (g.B.RuleBook.lawful c.args.book.now)
-    c.args.search lists c.args.allowance found c.in-default.ensures c.moves.left c.moves.decided c.moves.at c.turn-step.new.at here next none i
+    c.args.search lists c.args.allowance found c.in_default.ensures c.moves.left c.moves.decided c.moves.at c.turn-step.new.at here next none i
     t.0.state t.0.order t.0.policy (ends_none t.1.0 t.1.1 t.1.2 t.2) (inr t.1) e.fit e.beyond e.kept in
     let n = c.counts.ensures in
     ((c.turn-step.new.at, r, record { moves = n.0 ∙ ap (λ (x : State). x.moves) r.state; closings = n.1 ∙ ap (λ (x : State). x.closings) r.state; restarts = n.2 ∙ ap (λ (x : State). x.restarts) r.state }), i.plan)
 
-pub invariant-of-result : goal.invariant-of-result
-invariant-of-result g c =
+pub invariant_of-result : goal.invariant_of-result
+invariant_of-result g c =
     let e = c.in-Spent.ensures in
     let found = lent c.args.domains.now c.args.branch.now c.args.marks.now c.args.ends.now c.args.settled.now c.args.plan.now c.args.base.now c.args.order.now c.args.policy.now in
-    let y = ready (g.B.RuleBook.meaning c.args.book.now) c.args.search c.args.lists.now c.args.allowance found c.in-default.ensures in
+    let y = ready (g.B.RuleBook.meaning c.args.book.now) c.args.search c.args.lists.now c.args.allowance found c.in_default.ensures in
     let b = held_bounds c.args.search.groups c.moves.left c.args.lists.now c.moves.at c.turn-step.new.at c.moves.branch c.moves.base c.turn-step.new.branch c.turn-step.new.base y.searched c.moves.invariant.counted e.fit e.turned.0.state in
-    (c.args.search.sized, (b.0, (b.1, (b.2, (b.3, (b.4, (b.5, tt)))))))
+    record { sized = c.args.search.sized; within = b.0; used = b.1; counted = b.2; closed = b.3; restarted = b.4; lately = b.5 }
 
 pub returns-in-Spent : goal.returns-in-Spent
 returns-in-Spent g c =
@@ -108,12 +108,12 @@ returns-in-Spent g c =
     let found = lent c.args.domains.now c.args.branch.now c.args.marks.now c.args.ends.now c.args.settled.now c.args.plan.now c.args.base.now c.args.order.now c.args.policy.now in
     let here = lent c.moves.domains c.moves.branch c.moves.marks c.moves.ends c.moves.settled c.moves.plan c.moves.base c.moves.order c.moves.policy in
     let next = lent c.turn-step.new.domains c.turn-step.new.branch c.turn-step.new.marks c.turn-step.new.ends c.turn-step.new.settled c.moves.plan c.turn-step.new.base c.turn-step.new.order c.turn-step.new.policy in
-    let y = ready (g.B.RuleBook.meaning c.args.book.now) c.args.search c.args.lists.now c.args.allowance found c.in-default.ensures in
+    let y = ready (g.B.RuleBook.meaning c.args.book.now) c.args.search c.args.lists.now c.args.allowance found c.in_default.ensures in
     let here-at = at (state_of c.moves.at c.moves.branch c.moves.base) i.events i.restarts in
     let stops : Sits lists book (behaviour g.O.Order.meaning (g.O.Order.held c.args.order.now)) (cutoffs g.P.RestartPolicy.meaning (g.P.RestartPolicy.held c.args.policy.now)) (length c.args.base.now) c.moves.left here-at unsettled here-at =
     subst (λ (k : ℕ). Sits lists book (behaviour g.O.Order.meaning (g.O.Order.held c.args.order.now)) (cutoffs g.P.RestartPolicy.meaning (g.P.RestartPolicy.held c.args.policy.now)) (length c.args.base.now) k here-at unsettled here-at) (sym t.1) (spent t.2) in
     let r = comes g.O.Order.meaning g.met.O.Order.lawful g.P.RestartPolicy.meaning g.met.P.RestartPolicy.lawful g.O.Order.held g.P.RestartPolicy.held (g.B.RuleBook.meaning c.args.book.now) (g.B.RuleBook.lawful c.args.book.now)
-    c.args.search lists c.args.allowance found c.in-default.ensures c.moves.left c.moves.decided c.moves.at c.turn-step.new.at here next unsettled i
+    c.args.search lists c.args.allowance found c.in_default.ensures c.moves.left c.moves.decided c.moves.at c.turn-step.new.at here next unsettled i
     t.0.state t.0.order t.0.policy stops t.3 e.fit e.beyond e.kept in
     record {
       comes = r;
@@ -125,19 +125,19 @@ returns-in-Spent g c =
       plan = i.plan;
     }
 
-pub slice-bounds-write-plan-end : goal.slice-bounds-write-plan-end
-slice-bounds-write-plan-end g c =
+pub slice_bounds-write_plan-end : goal.slice_bounds-write_plan-end
+slice_bounds-write_plan-end g c =
     let found = lent c.args.domains.now c.args.branch.now c.args.marks.now c.args.ends.now c.args.settled.now c.args.plan.now c.args.base.now c.args.order.now c.args.policy.now in
-    let y = ready (g.B.RuleBook.meaning c.args.book.now) c.args.search c.args.lists.now c.args.allowance found c.in-default.ensures in
+    let y = ready (g.B.RuleBook.meaning c.args.book.now) c.args.search c.args.lists.now c.args.allowance found c.in_default.ensures in
     let a = y.roomy.domains in
     let b = c.turn-step.auto.domains in
     let d = c.moves.auto.domains in
     omega arith
 
-pub write-plan-requires : goal.write-plan-requires
-write-plan-requires g c =
+pub write_plan-requires : goal.write_plan-requires
+write_plan-requires g c =
     let found = lent c.args.domains.now c.args.branch.now c.args.marks.now c.args.ends.now c.args.settled.now c.args.plan.now c.args.base.now c.args.order.now c.args.policy.now in
-    let y = ready (g.B.RuleBook.meaning c.args.book.now) c.args.search c.args.lists.now c.args.allowance found c.in-default.ensures in
+    let y = ready (g.B.RuleBook.meaning c.args.book.now) c.args.search c.args.lists.now c.args.allowance found c.in_default.ensures in
     let ds = c.turn-step.new.domains in
     let lists = c.args.lists.now in
     let inside : length lists ≤ length ds = omega (arith, y.roomy.domains, c.turn-step.auto.domains, c.moves.auto.domains) in
@@ -152,18 +152,18 @@ returns-in-Plan g c =
     let i = c.moves.invariant in
     let found = lent c.args.domains.now c.args.branch.now c.args.marks.now c.args.ends.now c.args.settled.now c.args.plan.now c.args.base.now c.args.order.now c.args.policy.now in
     let here = lent c.moves.domains c.moves.branch c.moves.marks c.moves.ends c.moves.settled c.moves.plan c.moves.base c.moves.order c.moves.policy in
-    let next = lent c.turn-step.new.domains c.turn-step.new.branch c.turn-step.new.marks c.turn-step.new.ends c.turn-step.new.settled c.write-plan.new.plan c.turn-step.new.base c.turn-step.new.order c.turn-step.new.policy in
-    let y = ready (g.B.RuleBook.meaning c.args.book.now) c.args.search c.args.lists.now c.args.allowance found c.in-default.ensures in
+    let next = lent c.turn-step.new.domains c.turn-step.new.branch c.turn-step.new.marks c.turn-step.new.ends c.turn-step.new.settled c.write_plan.new.plan c.turn-step.new.base c.turn-step.new.order c.turn-step.new.policy in
+    let y = ready (g.B.RuleBook.meaning c.args.book.now) c.args.search c.args.lists.now c.args.allowance found c.in_default.ensures in
     let ds = c.turn-step.new.domains in
-    let xs = c.write-plan.new.plan in
+    let xs = c.write_plan.new.plan in
     let masks = take (length lists) ds in
     let inside : length lists ≤ length ds = omega (arith, y.roomy.domains, c.turn-step.auto.domains, c.moves.auto.domains) in
     let long = front_length ds (length lists) inside in
-    let roomy : length lists ≤ length xs = omega (arith, y.plan, c.moves.auto.plan, c.write-plan.auto.plan) in
-    let w = c.write-plan.ensures in
+    let roomy : length lists ≤ length xs = omega (arith, y.plan, c.moves.auto.plan, c.write_plan.auto.plan) in
+    let w = c.write_plan.ensures in
     let one = single lists masks (take (length lists) xs) t.2 t.3 (λ k l. subst (λ (j : ℕ). get_or (take j ds) k 0 < 2 ^ 64) (less_none (length lists)) (w.fits k (omega arith))) (λ k l. get_or-take (length lists) xs k 64 l ∙ w.written k (omega arith) ∙ ap (λ (j : ℕ). count_trailing_zeros 64 (get_or (take j ds) k 0)) (less_none (length lists))) in
     let r = comes g.O.Order.meaning g.met.O.Order.lawful g.P.RestartPolicy.meaning g.met.P.RestartPolicy.lawful g.O.Order.held g.P.RestartPolicy.held (g.B.RuleBook.meaning c.args.book.now) (g.B.RuleBook.lawful c.args.book.now)
-    c.args.search lists c.args.allowance found c.in-default.ensures c.moves.left c.moves.decided c.moves.at c.turn-step.new.at here next (plan (take (length lists) xs)) i
+    c.args.search lists c.args.allowance found c.in_default.ensures c.moves.left c.moves.decided c.moves.at c.turn-step.new.at here next (plan (take (length lists) xs)) i
     t.0.state t.0.order t.0.policy (ends_plan masks t.1 (take (length lists) xs) (length-take-le (length lists) xs roomy) one) (inl t.1) e.fit e.beyond e.kept in
     let n = c.counts-in-Plan.ensures in
     ((c.turn-step.new.at, r, record { moves = n.0 ∙ ap (λ (x : State). x.moves) r.state; closings = n.1 ∙ ap (λ (x : State). x.closings) r.state; restarts = n.2 ∙ ap (λ (x : State). x.restarts) r.state }), ap (λ (j : ℕ). drop j xs) (sym long) ∙ w.beyond ∙ ap (λ (j : ℕ). drop j c.moves.plan) long ∙ ap (drop (length lists)) i.plan)

@@ -11,14 +11,14 @@ finds c =
     let v = c.loop-i.invariant.0 in
     omega arith
 
-pub offset-bounds-rest-n : goal.offset-bounds-rest-n
-offset-bounds-rest-n c = let r = finds c in omega arith
+pub offset_bounds-rest-n : goal.offset_bounds-rest-n
+offset_bounds-rest-n c = let r = finds c in omega arith
 
 pub bounds-rest-n : goal.bounds-rest-n
 bounds-rest-n c = let r = finds c in omega arith
 
-pub overflow-add-n : goal.overflow-add-n
-overflow-add-n c = let r = finds c in omega arith
+pub overflow_add-n : goal.overflow_add-n
+overflow_add-n c = let r = finds c in omega arith
 
 pub loop-i-preserved : goal.loop-i-preserved
 loop-i-preserved c =

@@ -16,29 +16,29 @@ fits : (ws base start : List ℕ) (used at i len : ℕ) → i < len → 65536 �
     → length base ≡ length start → at ≡ used + length (recorded (reduced (branch_of ws i))) → at + (1 + length (nogood_at ws i)) ≤ length base
 fits ws base start used at i len l h r same e = let n = nogood_room ws i len (length start - used) l h (omega arith) in omega arith
 
-pub offset-bounds-base-at : goal.offset-bounds-base-at
-offset-bounds-base-at c =
+pub offset_bounds-base-at : goal.offset_bounds-base-at
+offset_bounds-base-at c =
     let f = fits c.args.branch.now c.loop-i.base c.args.base.now c.args.used c.loop-i.at c.loop-i.i c.args.len c.loop-i-test.true c.if-branch-i-ge65536.true c.requires.room c.loop-i.auto.base c.loop-i.invariant.0 in
     omega arith
 
-pub slice-bounds-write-nogood-count : goal.slice-bounds-write-nogood-count
-slice-bounds-write-nogood-count c =
+pub slice_bounds-write_nogood-count : goal.slice_bounds-write_nogood-count
+slice_bounds-write_nogood-count c =
     let f = fits c.args.branch.now c.loop-i.base c.args.base.now c.args.used c.loop-i.at c.loop-i.i c.args.len c.loop-i-test.true c.if-branch-i-ge65536.true c.requires.room c.loop-i.auto.base c.loop-i.invariant.0 in
     omega arith
 
-pub slice-bounds-write-nogood-start : goal.slice-bounds-write-nogood-start
-slice-bounds-write-nogood-start c =
+pub slice_bounds-write_nogood-start : goal.slice_bounds-write_nogood-start
+slice_bounds-write_nogood-start c =
     let f = fits c.args.branch.now c.loop-i.base c.args.base.now c.args.used c.loop-i.at c.loop-i.i c.args.len c.loop-i-test.true c.if-branch-i-ge65536.true c.requires.room c.loop-i.auto.base c.loop-i.invariant.0 in
     omega arith
 
-pub write-nogood-at-requires : goal.write-nogood-at-requires
-write-nogood-at-requires c =
+pub write_nogood-at-requires : goal.write_nogood-at-requires
+write_nogood-at-requires c =
     let f = fits c.args.branch.now c.loop-i.base c.args.base.now c.args.used c.loop-i.at c.loop-i.i c.args.len c.loop-i-test.true c.if-branch-i-ge65536.true c.requires.room c.loop-i.auto.base c.loop-i.invariant.0 in
     let d = length-drop c.loop-i.at c.loop-i.base in
     record { within = omega arith; few = omega arith; refusal = c.if-branch-i-ge65536.true; room = rw (take_rest c.loop-i.base c.loop-i.at) (omega arith) }
 
-pub overflow-add-at : goal.overflow-add-at
-overflow-add-at c =
+pub overflow_add-at : goal.overflow_add-at
+overflow_add-at c =
     let f = fits c.args.branch.now c.loop-i.base c.args.base.now c.args.used c.loop-i.at c.loop-i.i c.args.len c.loop-i-test.true c.if-branch-i-ge65536.true c.requires.room c.loop-i.auto.base c.loop-i.invariant.0 in
     omega arith
 
@@ -66,8 +66,8 @@ loop-i-preserved c =
     elim c.if-branch-i-ge65536.branch [
       | then-branch-i-ge65536 w ↦
           grown ws c.loop-i.base c.if-branch-i-ge65536.base start c.args.used c.loop-i.at c.if-branch-i-ge65536.at c.loop-i.i w.if-branch-i-ge65536.true (omega arith) v.0 v.1
-          (w.base-is ∙ base_written c.loop-i.base w.write-nogood-at.new.rest (nogood_at ws c.loop-i.i) c.loop-i.at w.write-nogood-at.ensures.wrote)
-          (w.at-is ∙ ap (λ k. c.loop-i.at + k) w.write-nogood-at.ensures.words)
+          (w.base-is ∙ base_written c.loop-i.base w.write_nogood-at.new.rest (nogood_at ws c.loop-i.i) c.loop-i.at w.write_nogood-at.ensures.wrote)
+          (w.at-is ∙ ap (λ k. c.loop-i.at + k) w.write_nogood-at.ensures.words)
       | else-branch-i-ge65536 w ↦ (
           let t = ap recorded (reduced_taken ws c.loop-i.i w.if-branch-i-ge65536.false) in (
             w.at-is ∙ v.0 ∙ ap (λ xs. c.args.used + length xs) (sym t),

@@ -6,7 +6,7 @@ use Rattle.search.proofs.turns.is_due.Goals as goal
 pub returns : goal.returns
 returns g c =
     let a = all_words c.args.at.now c.args.branch.now c.args.base.now c.requires.used c.requires.words in
-    let n = c.words-needed.ensures in
+    let n = c.words_needed.ensures in
     record {
       yes = λ t. (omega (arith, c.cutoff.ensures), let h = leb-true _ _ t in omega arith);
       no = λ f d. let h = leb-false _ _ f in let k = d.1 in omega arith;

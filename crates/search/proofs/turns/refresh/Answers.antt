@@ -12,8 +12,8 @@ use Rattle.search.proofs.turns.refresh.Goals as goal
 same_base : (base : List ℕ) (n : ℕ) → base_of (take (n - 0) base) ≡ base_of (take n base)
 same_base base n = ap (λ k. base_of (take k base)) (less_none n)
 
-pub propagate-decision-requires : goal.propagate-decision-requires
-propagate-decision-requires g c =
+pub propagate_decision-requires : goal.propagate_decision-requires
+propagate_decision-requires g c =
     let lists = c.args.lists.now in
     let ws = c.args.branch.now in
     let p = c.args.at.now in
@@ -75,7 +75,7 @@ returns-then-decided g c =
     let n = p.branch_len in
     let f = c.requires.fit in
     let inside : n ≤ length ws = omega (arith, f.branch_in, f.branch_room) in
-    let e = c.propagate-decision.ensures in
+    let e = c.propagate_decision.ensures in
     let sb = same_base c.args.base.now p.base_used in
     let wb = whole_branch ws n inside in
     record {

@@ -16,22 +16,22 @@ returns-then-not-refresh g c =
     let om = g.O.Order.meaning in
     let pm = g.P.RestartPolicy.meaning in
     let p = c.args.at.now in
-    let p' = c.turn-dead.new.at in
+    let p' = c.turn_dead.new.at in
     let ws = c.args.branch.now in
-    let ws' = c.turn-dead.new.branch in
+    let ws' = c.turn_dead.new.branch in
     let bs = c.args.base.now in
     let s = state_of p ws bs in
     let s' = state_of p' ws' bs in
     let h = g.O.Order.held c.args.order.now in
-    let h' = g.O.Order.held c.turn-dead.new.order in
+    let h' = g.O.Order.held c.turn_dead.new.order in
     let q = g.P.RestartPolicy.held c.args.policy.now in
     let f = c.requires.fit in
-    let d = c.turn-dead.ensures in
+    let d = c.turn_dead.ensures in
     let masks = take (length lists) c.refresh.new.domains in
-    let t = turned_dead lists m om pm (length bs) c.args.left masks h h' q q s s' c.turn-dead.result (d.turn bs) (dead_masks lists m law s (c.if-not-refresh.ensures.dead refl)) refl in
-    let w = turned_whole lists m om pm (length bs) c.args.left masks h h' q q s s' g.met.O.Order.lawful g.met.P.RestartPolicy.lawful c.turn-dead.result t (fit_whole lists p ws bs f) in
+    let t = turned_dead lists m om pm (length bs) c.args.left masks h h' q q s s' c.turn_dead.result (d.turn bs) (dead_masks lists m law s (c.if-not-refresh.ensures.dead refl)) refl in
+    let w = turned_whole lists m om pm (length bs) c.args.left masks h h' q q s s' g.met.O.Order.lawful g.met.P.RestartPolicy.lawful c.turn_dead.result t (fit_whole lists p ws bs f) in
     let used = d.used in
-    let kept = c.turn-dead.auto.branch in
+    let kept = c.turn_dead.auto.branch in
     record {
       turned = t;
       fit = record {
@@ -45,7 +45,7 @@ returns-then-not-refresh g c =
         nogoods = w.base;
         words = ap (λ k. take k bs) used ∙ f.words ∙ ap (λ k. recorded (base_of (take k bs))) (sym used);
       };
-      fresh = λ e. absurd (not_decided om pm (length bs) c.args.left h h' q q s s' c.turn-dead.result (d.turn bs) e);
+      fresh = λ e. absurd (not_decided om pm (length bs) c.args.left h h' q q s s' c.turn_dead.result (d.turn bs) e);
       beyond = c.refresh.ensures.beyond;
       kept = record {
         branch = past_more ws ws' p.branch_len (64 * length lists) f.branch_in d.past;
@@ -54,8 +54,8 @@ returns-then-not-refresh g c =
       };
     }
 
-pub turn-alive-requires : goal.turn-alive-requires
-turn-alive-requires g c =
+pub turn_alive-requires : goal.turn_alive-requires
+turn_alive-requires g c =
     let lists = c.args.lists.now in
     let m = g.B.RuleBook.meaning c.args.book.now in
     let p = c.args.at.now in
@@ -88,42 +88,42 @@ returns g c =
     let om = g.O.Order.meaning in
     let pm = g.P.RestartPolicy.meaning in
     let p = c.args.at.now in
-    let p' = c.turn-alive.new.at in
+    let p' = c.turn_alive.new.at in
     let ws = c.args.branch.now in
-    let ws' = c.turn-alive.new.branch in
+    let ws' = c.turn_alive.new.branch in
     let bs = c.args.base.now in
-    let bs' = c.turn-alive.new.base in
+    let bs' = c.turn_alive.new.base in
     let s = state_of p ws bs in
     let s' = state_of p' ws' bs' in
     let h = g.O.Order.held c.args.order.now in
-    let h' = g.O.Order.held c.turn-alive.new.order in
+    let h' = g.O.Order.held c.turn_alive.new.order in
     let q = g.P.RestartPolicy.held c.args.policy.now in
-    let q' = g.P.RestartPolicy.held c.turn-alive.new.policy in
+    let q' = g.P.RestartPolicy.held c.turn_alive.new.policy in
     let f = c.requires.fit in
-    let d = c.turn-alive.ensures in
+    let d = c.turn_alive.ensures in
     let ds = c.refresh.new.domains in
     let inside : length lists ≤ length ds = omega (arith, c.refresh.auto.domains, c.requires.roomy.domains) in
     let long : length (take (length lists - 0) ds) ≡ length lists = front_length ds (length lists) inside in
     let masks = take (length lists) ds in
     let lives = c.if-not-refresh.ensures.lives refl in
     let leaves = live_masks lists m s masks (length-take-le (length lists) ds inside) lives in
-    let a = alive_at om pm (length bs) c.args.left h h' q q' s s' c.turn-alive.result (take (length lists - 0) ds) masks (ap (λ k. take k ds) (less_none (length lists))) d.turn in
-    let t = turned_alive lists m om pm (length bs) c.args.left masks h h' q q' s s' c.turn-alive.result a leaves lives.alive in
-    let w = turned_whole lists m om pm (length bs) c.args.left masks h h' q q' s s' g.met.O.Order.lawful g.met.P.RestartPolicy.lawful c.turn-alive.result t (fit_whole lists p ws bs f) in
+    let a = alive_at om pm (length bs) c.args.left h h' q q' s s' c.turn_alive.result (take (length lists - 0) ds) masks (ap (λ k. take k ds) (less_none (length lists))) d.turn in
+    let t = turned_alive lists m om pm (length bs) c.args.left masks h h' q q' s s' c.turn_alive.result a leaves lives.alive in
+    let w = turned_whole lists m om pm (length bs) c.args.left masks h h' q q' s s' g.met.O.Order.lawful g.met.P.RestartPolicy.lawful c.turn_alive.result t (fit_whole lists p ws bs f) in
     record {
       turned = t;
       fit = record {
         some = f.some;
         few = f.few;
         branch_in = omega (arith, d.within);
-        branch_room = omega (arith, c.turn-alive.auto.branch, f.branch_room);
+        branch_room = omega (arith, c.turn_alive.auto.branch, f.branch_room);
         base_in = d.used;
-        base_room = omega (arith, c.turn-alive.auto.base, f.base_room);
+        base_room = omega (arith, c.turn_alive.auto.base, f.base_room);
         sound = w.branch;
         nogoods = w.base;
         words = d.words;
       };
-      fresh = λ e. let k = decided_state om pm (length bs) c.args.left h h' q q' s s' c.turn-alive.result masks a e in fresh_from lists m p p' ws ws' bs bs' ds k.0 k.1 lives;
+      fresh = λ e. let k = decided_state om pm (length bs) c.args.left h h' q q' s s' c.turn_alive.result masks a e in fresh_from lists m p p' ws ws' bs bs' ds k.0 k.1 lives;
       beyond = c.refresh.ensures.beyond;
       kept = record {
         branch = ap (λ k. drop (64 * k) ws') (sym long) ∙ d.kept.branch ∙ ap (λ k. drop (64 * k) ws) long;

@@ -9,20 +9,20 @@ use Rattle.search.proofs.turns.turn_alive.Goals as goal
 
 pub restart-requires : goal.restart-requires
 restart-requires g c =
-    let d = (c.if-is-due.ensures.yes refl).1 in
+    let d = (c.if-is_due.ensures.yes refl).1 in
     let a = all_words c.args.at.now c.args.branch.now c.args.base.now c.requires.used c.requires.words in
     let k = c.requires.counted in
     record { within = omega arith; few = omega arith; room = omega arith; short = c.requires.short; counted = record { moves = omega arith; closings = k.closings; restarts = k.restarts; since = k.since } }
 
-pub returns-then-is-due : goal.returns-then-is-due
-returns-then-is-due g c =
+pub returns-then-is_due : goal.returns-then-is_due
+returns-then-is_due g c =
     let p = c.args.at.now in
     let ws = c.args.branch.now in
     let bs = c.args.base.now in
     let bs' = c.restart.new.base in
     let e = c.restart.ensures in
     let new = recorded (reduced (branch_of ws p.branch_len)) in
-    let due = c.if-is-due.ensures.yes refl in
+    let due = c.if-is_due.ensures.yes refl in
     let a = all_words p ws bs c.requires.used c.requires.words in
     let room = due.1 in
     let used : c.restart.new.at.base_used ≡ p.base_used + length new = ap (λ (q : Progress). q.base_used) e.numbers in
@@ -32,7 +32,7 @@ returns-then-is-due g c =
     record {
       turn = (
         omega arith,
-        c.if-not-some-wide.ensures.yes refl,
+        c.if-not-some_wide.ensures.yes refl,
         record {
           due = due;
           state = ap (λ (q : Progress). state_of q ws bs') e.numbers ∙ restarting_state p ws bs bs' c.requires.used c.requires.words wrote;
@@ -62,9 +62,9 @@ returns g c =
     let h = g.O.Order.held c.args.order.now in
     let o = group_open om law h ms d.group d.grouped in
     let k = channel_has om law (om.grouped h ms) ms d.group d.channel d.channeled in
-    let fits : get_or ms d.group 0 < 2 ^ 64 = omega (arith, c.type-inv.domains d.group) in
+    let fits : get_or ms d.group 0 < 2 ^ 64 = omega (arith, c.type_inv.domains d.group) in
     let small = word_small ms d.group d.channel c.requires.few o k fits in
-    let wide = c.if-not-some-wide.ensures.yes refl in
+    let wide = c.if-not-some_wide.ensures.yes refl in
     let spare = c.requires.spare wide in
     let used : c.decide.new.at.base_used ≡ p.base_used = ap (λ (q : Progress). q.base_used) d.numbers in
     let len : c.decide.new.at.branch_len ≡ p.branch_len + 1 = ap (λ (q : Progress). q.branch_len) d.numbers in
@@ -73,7 +73,7 @@ returns g c =
         omega arith,
         wide,
         record {
-          not_due = c.if-is-due.ensures.no refl;
+          not_due = c.if-is_due.ensures.no refl;
           group = d.group;
           channel = d.channel;
           grouped = d.grouped;

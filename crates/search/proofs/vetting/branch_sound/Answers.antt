@@ -5,7 +5,7 @@ use Rattle.search.proofs.Vets.{branch_more, branch_fails, listed_free, branch_st
 use Rattle.search.proofs.vetting.branch_sound.Goals as goal
 
 pub loop-i-init : goal.loop-i-init
-loop-i-init c = (c.copy-lists.auto.free, refl, listed_free c.args.lists.now c.copy-lists.new.free c.copy-lists.ensures)
+loop-i-init c = (c.copy_lists.auto.free, refl, listed_free c.args.lists.now c.copy_lists.new.free c.copy_lists.ensures)
 
 pub loop-i-preserved : goal.loop-i-preserved
 loop-i-preserved c =

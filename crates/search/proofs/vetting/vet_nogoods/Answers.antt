@@ -24,8 +24,8 @@ module _ (a b d e : Bool) where
   at_none : a ≡ true → b ≡ true → d ≡ true → e ≡ true → first_of (unless a 13 ∷ unless b 16 ∷ unless d 14 ∷ unless e 15 ∷ []) ≡ None
   at_none p q r s = pass a 13 (unless b 16 ∷ unless d 14 ∷ unless e 15 ∷ []) p ∙ pass b 16 (unless d 14 ∷ unless e 15 ∷ []) q ∙ pass d 14 (unless e 15 ∷ []) r ∙ pass e 15 [] s
 
-pub returns-then-not-branch-sound : goal.returns-then-not-branch-sound
-returns-then-not-branch-sound c =
+pub returns-then-not-branch_sound : goal.returns-then-not-branch_sound
+returns-then-not-branch_sound c =
     let lists = c.args.lists.now in
     let ws = c.args.branch.now in
     let bs = c.args.base.now in
@@ -33,10 +33,10 @@ returns-then-not-branch-sound c =
     let u = c.args.search.now.at.base_used in
     let since = c.args.search.now.at.since in
     let new = length (recorded (reduced (branch_of ws n))) in
-    at_13 (branch? lists (branch_of ws n)) (base? lists (take u bs)) (leb 1 since) (leb (u + new) (length bs)) (branch_is lists ws n false c.requires.branch c.if-not-branch-sound.ensures)
+    at_13 (branch? lists (branch_of ws n)) (base? lists (take u bs)) (leb 1 since) (leb (u + new) (length bs)) (branch_is lists ws n false c.requires.branch c.if-not-branch_sound.ensures)
 
-pub returns-then-not-base-sound : goal.returns-then-not-base-sound
-returns-then-not-base-sound c =
+pub returns-then-not-base_sound : goal.returns-then-not-base_sound
+returns-then-not-base_sound c =
     let lists = c.args.lists.now in
     let ws = c.args.branch.now in
     let bs = c.args.base.now in
@@ -44,7 +44,7 @@ returns-then-not-base-sound c =
     let u = c.args.search.now.at.base_used in
     let since = c.args.search.now.at.since in
     let new = length (recorded (reduced (branch_of ws n))) in
-    at_16 (branch? lists (branch_of ws n)) (base? lists (take u bs)) (leb 1 since) (leb (u + new) (length bs)) (branch_is lists ws n true c.requires.branch c.if-not-branch-sound.ensures) (base_is lists bs u false c.if-not-base-sound.ensures)
+    at_16 (branch? lists (branch_of ws n)) (base? lists (take u bs)) (leb 1 since) (leb (u + new) (length bs)) (branch_is lists ws n true c.requires.branch c.if-not-branch_sound.ensures) (base_is lists bs u false c.if-not-base_sound.ensures)
 
 pub returns-then-search-eq0 : goal.returns-then-search-eq0
 returns-then-search-eq0 c =
@@ -55,10 +55,10 @@ returns-then-search-eq0 c =
     let u = c.args.search.now.at.base_used in
     let since = c.args.search.now.at.since in
     let new = length (recorded (reduced (branch_of ws n))) in
-    at_14 (branch? lists (branch_of ws n)) (base? lists (take u bs)) (leb 1 since) (leb (u + new) (length bs)) (branch_is lists ws n true c.requires.branch c.if-not-branch-sound.ensures) (base_is lists bs u true c.if-not-base-sound.ensures) (lt-leb 1 since (omega arith))
+    at_14 (branch? lists (branch_of ws n)) (base? lists (take u bs)) (leb 1 since) (leb (u + new) (length bs)) (branch_is lists ws n true c.requires.branch c.if-not-branch_sound.ensures) (base_is lists bs u true c.if-not-base_sound.ensures) (lt-leb 1 since (omega arith))
 
-pub returns-then-words-needed-base : goal.returns-then-words-needed-base
-returns-then-words-needed-base c =
+pub returns-then-words_needed-base : goal.returns-then-words_needed-base
+returns-then-words_needed-base c =
     let lists = c.args.lists.now in
     let ws = c.args.branch.now in
     let bs = c.args.base.now in
@@ -66,7 +66,7 @@ returns-then-words-needed-base c =
     let u = c.args.search.now.at.base_used in
     let since = c.args.search.now.at.since in
     let new = length (recorded (reduced (branch_of ws n))) in
-    at_15 (branch? lists (branch_of ws n)) (base? lists (take u bs)) (leb 1 since) (leb (u + new) (length bs)) (branch_is lists ws n true c.requires.branch c.if-not-branch-sound.ensures) (base_is lists bs u true c.if-not-base-sound.ensures) (le-leb 1 since (omega arith)) (lt-leb (u + new) (length bs) (omega (arith, c.words-needed.ensures)))
+    at_15 (branch? lists (branch_of ws n)) (base? lists (take u bs)) (leb 1 since) (leb (u + new) (length bs)) (branch_is lists ws n true c.requires.branch c.if-not-branch_sound.ensures) (base_is lists bs u true c.if-not-base_sound.ensures) (le-leb 1 since (omega arith)) (lt-leb (u + new) (length bs) (omega (arith, c.words_needed.ensures)))
 
 pub returns : goal.returns
 returns c =
@@ -77,4 +77,4 @@ returns c =
     let u = c.args.search.now.at.base_used in
     let since = c.args.search.now.at.since in
     let new = length (recorded (reduced (branch_of ws n))) in
-    at_none (branch? lists (branch_of ws n)) (base? lists (take u bs)) (leb 1 since) (leb (u + new) (length bs)) (branch_is lists ws n true c.requires.branch c.if-not-branch-sound.ensures) (base_is lists bs u true c.if-not-base-sound.ensures) (le-leb 1 since (omega arith)) (le-leb (u + new) (length bs) (omega (arith, c.words-needed.ensures)))
+    at_none (branch? lists (branch_of ws n)) (base? lists (take u bs)) (leb 1 since) (leb (u + new) (length bs)) (branch_is lists ws n true c.requires.branch c.if-not-branch_sound.ensures) (base_is lists bs u true c.if-not-base_sound.ensures) (le-leb 1 since (omega arith)) (le-leb (u + new) (length bs) (omega (arith, c.words_needed.ensures)))

@@ -20,25 +20,25 @@ module _ (a b d : Bool) where
   at_none : a ≡ true → b ≡ true → d ≡ true → first_of (unless a 13 ∷ unless b 16 ∷ unless d 20 ∷ []) ≡ None
   at_none e f h = pass a 13 (unless b 16 ∷ unless d 20 ∷ []) e ∙ pass b 16 (unless d 20 ∷ []) f ∙ pass d 20 [] h
 
-pub returns-then-not-branch-sound : goal.returns-then-not-branch-sound
-returns-then-not-branch-sound c =
+pub returns-then-not-branch_sound : goal.returns-then-not-branch_sound
+returns-then-not-branch_sound c =
     let lists = c.args.lists.now in
     let ws = c.args.branch.now in
     let bs = c.args.base.now in
     let n = c.args.search.now.at.branch_len in
     let u = c.args.search.now.at.base_used in
     let groups = c.args.search.now.groups in
-    at_13 (branch? lists (branch_of ws n)) (base? lists (take u bs)) (ltb n (64 * groups)) (branch_is lists ws n false c.requires.branch c.if-not-branch-sound.ensures)
+    at_13 (branch? lists (branch_of ws n)) (base? lists (take u bs)) (ltb n (64 * groups)) (branch_is lists ws n false c.requires.branch c.if-not-branch_sound.ensures)
 
-pub returns-then-not-base-sound : goal.returns-then-not-base-sound
-returns-then-not-base-sound c =
+pub returns-then-not-base_sound : goal.returns-then-not-base_sound
+returns-then-not-base_sound c =
     let lists = c.args.lists.now in
     let ws = c.args.branch.now in
     let bs = c.args.base.now in
     let n = c.args.search.now.at.branch_len in
     let u = c.args.search.now.at.base_used in
     let groups = c.args.search.now.groups in
-    at_16 (branch? lists (branch_of ws n)) (base? lists (take u bs)) (ltb n (64 * groups)) (branch_is lists ws n true c.requires.branch c.if-not-branch-sound.ensures) (base_is lists bs u false c.if-not-base-sound.ensures)
+    at_16 (branch? lists (branch_of ws n)) (base? lists (take u bs)) (ltb n (64 * groups)) (branch_is lists ws n true c.requires.branch c.if-not-branch_sound.ensures) (base_is lists bs u false c.if-not-base_sound.ensures)
 
 pub returns-then-search : goal.returns-then-search
 returns-then-search c =
@@ -48,7 +48,7 @@ returns-then-search c =
     let n = c.args.search.now.at.branch_len in
     let u = c.args.search.now.at.base_used in
     let groups = c.args.search.now.groups in
-    at_20 (branch? lists (branch_of ws n)) (base? lists (take u bs)) (ltb n (64 * groups)) (branch_is lists ws n true c.requires.branch c.if-not-branch-sound.ensures) (base_is lists bs u true c.if-not-base-sound.ensures) (le-ltb n (64 * groups) (omega arith))
+    at_20 (branch? lists (branch_of ws n)) (base? lists (take u bs)) (ltb n (64 * groups)) (branch_is lists ws n true c.requires.branch c.if-not-branch_sound.ensures) (base_is lists bs u true c.if-not-base_sound.ensures) (le-ltb n (64 * groups) (omega arith))
 
 pub returns : goal.returns
 returns c =
@@ -58,4 +58,4 @@ returns c =
     let n = c.args.search.now.at.branch_len in
     let u = c.args.search.now.at.base_used in
     let groups = c.args.search.now.groups in
-    at_none (branch? lists (branch_of ws n)) (base? lists (take u bs)) (ltb n (64 * groups)) (branch_is lists ws n true c.requires.branch c.if-not-branch-sound.ensures) (base_is lists bs u true c.if-not-base-sound.ensures) (lt-ltb n (64 * groups) (omega arith))
+    at_none (branch? lists (branch_of ws n)) (base? lists (take u bs)) (ltb n (64 * groups)) (branch_is lists ws n true c.requires.branch c.if-not-branch_sound.ensures) (base_is lists bs u true c.if-not-base_sound.ensures) (lt-ltb n (64 * groups) (omega arith))
