@@ -14,7 +14,7 @@ returns-in-Plan g c =
     record {
       kept = search rules;
       comes = λ run. came_plan (g.B.RuleBook.meaning c.args.book.now) c.args.lists.now c.loop-sitting.search (vec_items before.branch) (vec_items before.base) (vec_items after.branch) (vec_items after.base) (vec_items after.plan)
-          c.in-ok-settled.field-0 c.in-Plan.settled c.counts.result c.counts.ensures c.in-ok-settled.ensures.goes_on c.in-Plan.is (c.loop-sitting.invariant.1 run).0;
+          c.in_ok-settled.field-0 c.in-Plan.settled c.counts.result c.counts.ensures c.in_ok-settled.ensures.goes_on c.in-Plan.is (c.loop-sitting.invariant.1 run).0;
     }
 
 pub returns-in-None : goal.returns-in-None
@@ -24,7 +24,7 @@ returns-in-None g c =
     record {
       kept = search rules;
       comes = λ run. came_none (g.B.RuleBook.meaning c.args.book.now) c.args.lists.now c.loop-sitting.search (vec_items before.branch) (vec_items before.base) (vec_items after.branch) (vec_items after.base) (vec_items after.plan)
-          c.in-ok-settled.field-0 c.in-None.settled c.counts-in-None.result c.counts-in-None.ensures c.in-ok-settled.ensures.goes_on c.in-None.is (c.loop-sitting.invariant.1 run).0;
+          c.in_ok-settled.field-0 c.in-None.settled c.counts-in-None.result c.counts-in-None.ensures c.in_ok-settled.ensures.goes_on c.in-None.is (c.loop-sitting.invariant.1 run).0;
     }
 
 pub returns : goal.returns
