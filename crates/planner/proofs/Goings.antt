@@ -1,5 +1,5 @@
 -- A sitting's answer takes every run on.
-use Rattle.std.proofs.Common.{◌≡◌, ℕ, List, length, take, drop, Ok, vec_items, Vec, sym, refl, ap, ◌∙◌, subst, arith}
+use Rattle.std.proofs.Common.{◌≡◌, ℕ, List, length, take, drop, Ok, vec_items, Vec, sym, ap, ◌∙◌, subst, arith}
 use Rattle.std.proofs.lemmas.List.{take_at, take_all}
 use Rattle.std.specs.Vec.{with_items}
 use Rattle.rules.specs.Meanings.{Meaning}

@@ -1,5 +1,4 @@
 -- Where memory is wanting, nothing is owed of a bench.
-use Rattle.std.proofs.Common.{◌≡◌}
 use Rattle.std.proofs.lemmas.Result.{err_from_is_err_and}
 use Rattle.planner.proofs.regions.Bench.new.Goals as goal
 
