@@ -1,29 +1,28 @@
 -- How a sitting stands after some of its moves, and how it ends.
-use Rattle.std.proofs.Common.{◌≡◌, ℕ, zero, suc, ◌+◌, ◌-◌, ◌*◌, ◌^◌, ◌<◌, ◌≤◌, Bool, true, false, ◌≢◌, ◌⊎◌, List, [], ◌∷◌, ◌++◌, length, get_or, take, drop, None, sym, refl, ap, ◌∙◌, subst, inl, inr, one-add, arith}
+use Rattle.std.proofs.Common.{◌≡◌, ℕ, zero, suc, ◌+◌, ◌-◌, ◌*◌, ◌^◌, ◌<◌, ◌≤◌, Bool, true, ◌⊎◌, List, [], ◌∷◌, ◌++◌, length, get_or, take, drop, None, sym, refl, ap, ◌∙◌, subst, inl, inr, one-add, arith}
 use lib.Count.{ones, count_trailing_zeros}
 use Rattle.std.proofs.lemmas.List.{drop-drop, length-take-le}
-use Rattle.rules.specs.Channels.{has, Has}
+use Rattle.rules.specs.Channels.{Has}
 use Rattle.std.proofs.lemmas.Bool.{cases_lt}
 use Rattle.rules.specs.Meanings.{Meaning, Lawful}
-use Rattle.branching.specs.Channels.{Open, Lowest}
+use Rattle.branching.specs.Channels.{Open}
 use Rattle.branching.specs.Order.{OrderMeaning, Lawful as LawfulMeaning}
 use Rattle.branching.specs.Policy.{PolicyMeaning, LawfulPolicy}
 use Rattle.branching.specs.Bits.{trailing_lowest, two_count, none_has}
 use Rattle.model.specs.Remains.{family, Dead, Alive, Single}
-use Rattle.model.specs.Decisions.{takens}
 use Rattle.model.specs.Words.{recorded}
-use Rattle.model.specs.Moves.{State, closing, restarting, deciding}
+use Rattle.model.specs.Moves.{State}
 use Rattle.propagation.specs.declared.records.RuleEnd.{RuleEnd}
 use Rattle.propagation.specs.declared.records.Assignment.{Assignment}
 use Rattle.laws.specs.Orders.{Order, Policy, Event, asked, channel_asked, told, held_after, behaviour, moved_on, cutoffs}
-use Rattle.laws.specs.Sittings.{Search, begun, Verdict, none, plan, unsettled, Leaves, Going, Turn, close, restart, decide, Sits, ends_none, ends_plan, spent}
+use Rattle.laws.specs.Sittings.{Search, begun, Verdict, Leaves, Turn, close, restart, decide, Sits}
 use Rattle.laws.specs.Requests.{sitting_refusal}
 use Rattle.laws.specs.Runs.{Found}
 use Rattle.laws.proofs.Masks.{has-Has, Has-has}
 use Rattle.laws.proofs.Orders.{behaves, cuts_off}
 use Rattle.laws.proofs.Refusals.{sitting_stands}
 use Rattle.laws.proofs.Runs.{sitting_continues}
-use Rattle.laws.proofs.Sittings.{Onward, onward_none, onward_more}
+use Rattle.laws.proofs.Sittings.{Onward, onward_more}
 use Rattle.search.specs.declared.held.Progress.{Progress}
 use Rattle.search.specs.declared.held.OpenSearch.{OpenSearch}
 use Rattle.search.proofs.Turning.{length_branch_of}

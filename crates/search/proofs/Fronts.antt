@@ -1,12 +1,11 @@
 -- The first words of a branch and of a base, as they are lent on.
-use Rattle.std.proofs.Common.{◌≡◌, ℕ, zero, suc, ◌+◌, ◌-◌, ◌*◌, ◌/◌, ◌<◌, ◌≤◌, ◌≢◌, ◌⊎◌, List, [], ◌∷◌, ◌++◌, length, get_or, take, sym, refl, ap, ◌∙◌, subst, inl, inr, not-suc-le-zero, arith}
+use Rattle.std.proofs.Common.{◌≡◌, ℕ, zero, suc, ◌-◌, ◌/◌, ◌<◌, ◌≤◌, List, length, get_or, take, refl, ap, ◌∙◌, subst, inl, inr, not-suc-le-zero, arith}
 use Rattle.std.specs.List.{AllByRecursion}
 use Rattle.std.proofs.lemmas.List.{length-take-le, get_or-take}
 use Rattle.std.proofs.ByRecursion.{All-weaker}
 use Rattle.std.proofs.lemmas.Bool.{cases_eq}
-use Rattle.model.specs.Masks.{grp}
 use Rattle.model.specs.Decisions.{Decision, word, Assignment, Branch, Nogood}
-use Rattle.model.specs.Words.{decision, branch_of, base_of}
+use Rattle.model.specs.Words.{decision, branch_of}
 use Rattle.rules.specs.Meanings.{Meaning}
 use Rattle.propagation.specs.Bases.{Grouped}
 use Rattle.propagation.specs.Filtered.{Lives, Dies}

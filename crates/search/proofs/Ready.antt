@@ -1,16 +1,15 @@
 -- What an accepted sitting may rely on.
-use Rattle.std.proofs.Common.{◌≡◌, ℕ, ◌+◌, ◌*◌, ◌<◌, ◌≤◌, Bool, true, ◌&&◌, eqb, leb, List, length, take, None, sym, ap, ◌∙◌, subst, arith}
+use Rattle.std.proofs.Common.{◌≡◌, ℕ, ◌+◌, ◌*◌, ◌≤◌, true, ◌&&◌, eqb, leb, List, length, take, None, sym, ap, ◌∙◌, subst, arith}
 use Rattle.std.specs.List.{AllByRecursion}
 use Rattle.std.proofs.lemmas.Bool.{and_parts, eqb-true, leb-true}
 use Rattle.rules.specs.Meanings.{Meaning}
 use Rattle.model.specs.Decisions.{reduced, Nogood}
 use Rattle.model.specs.Words.{branch_of, base_of, recorded}
 use Rattle.model.proofs.Bases.{base_recorded}
-use Rattle.laws.specs.Words.{branch?, base?}
-use Rattle.laws.specs.Requests.{Request, in_range, book_agrees, search_agrees, base_fits, branch_fits, work_fits, is_branch_sound, is_base_sound, has_space, sitting_checks, restart_checks, sitting_refusal, restart_refusal}
+use Rattle.laws.specs.Words.{base?}
+use Rattle.laws.specs.Requests.{in_range, book_agrees, search_agrees, base_fits, branch_fits, work_fits, is_branch_sound, is_base_sound, has_space, sitting_checks, restart_checks, sitting_refusal, restart_refusal}
 use Rattle.laws.proofs.Refusals.{unless_none, all_none}
 use Rattle.laws.proofs.Words.{is_branch, is_base}
-use Rattle.search.specs.declared.held.Progress.{Progress}
 use Rattle.search.specs.declared.held.OpenSearch.{OpenSearch}
 use Rattle.search.specs.Turns.{Counted, Fit, Roomy}
 use Rattle.search.specs.Sittings.{Lent, request}

@@ -1,13 +1,13 @@
 -- What the writes of each move do to the state that the numbers and the words stand for.
-use Rattle.std.proofs.Common.{◌≡◌, ℕ, zero, suc, ◌+◌, ◌-◌, ◌*◌, ◌/◌, ◌<◌, ◌≤◌, ◌≢◌, ◌⊎◌, List, [], ◌∷◌, ◌++◌, length, get_or, take, drop, set, sym, refl, ap, ◌∙◌, subst, inl, inr, append_assoc, not-suc-le-zero, add-one, arith, length-append}
+use Rattle.std.proofs.Common.{◌≡◌, ℕ, zero, suc, ◌+◌, ◌-◌, ◌<◌, ◌≤◌, ◌≢◌, ◌⊎◌, List, [], ◌∷◌, ◌++◌, length, get_or, take, drop, set, sym, refl, ap, ◌∙◌, inl, inr, append_assoc, not-suc-le-zero, arith, length-append}
 use mathlib.Core.List.{concat-ne-nil}
-use Rattle.std.proofs.lemmas.List.{append-nil, length-take-le, take_at, drop_at, drop-drop, drop-set-lt}
+use Rattle.std.proofs.lemmas.List.{length-take-le, take_at, drop_at, drop-drop, drop-set-lt}
 use Rattle.std.proofs.lemmas.Bool.{cases_eq}
 use Rattle.model.specs.Masks.{grp}
-use Rattle.model.specs.Decisions.{Decision, taken, refused, takens, reduced, closed}
+use Rattle.model.specs.Decisions.{Decision, takens, reduced}
 use Rattle.model.specs.Words.{decision, branch_of, base_of, recorded}
 use Rattle.model.specs.Moves.{State, nogoods, closing, restarting, deciding}
-use Rattle.model.proofs.Words.{is_taken, is_refused, write_past, write_taken, write_refused}
+use Rattle.model.proofs.Words.{is_taken, is_refused, write_taken, write_refused}
 use Rattle.model.proofs.Bases.{base_recorded}
 use Rattle.laws.specs.Sittings.{blamed}
 use Rattle.laws.proofs.Refusals.{words_append}

@@ -1,17 +1,15 @@
 -- What a turn does to the numbers and the words is a turn of the search that they stand for.
-use Rattle.std.proofs.Common.{◌≡◌, ℕ, zero, suc, ◌+◌, ◌-◌, ◌*◌, ◌<◌, ◌≤◌, true, false, ◌≢◌, ◌⊎◌, List, [], ◌∷◌, length, get_or, take, sym, refl, ap, ◌∙◌, subst, inl, inr, arith}
-use Rattle.std.specs.List.{AllByRecursion}
+use Rattle.std.proofs.Common.{◌≡◌, ℕ, zero, suc, ◌+◌, ◌-◌, ◌*◌, ◌<◌, List, ◌∷◌, length, get_or, take, sym, refl, ap, ◌∙◌, subst, inl, inr, arith}
 use Rattle.std.proofs.lemmas.Bool.{cases_lt}
-use Rattle.rules.specs.Channels.{has, Has}
 use Rattle.rules.specs.Meanings.{Meaning, Lawful}
 use Rattle.branching.specs.Channels.{Open}
 use Rattle.branching.specs.Order.{OrderMeaning, Lawful as LawfulMeaning}
 use Rattle.branching.specs.Policy.{PolicyMeaning, LawfulPolicy}
 use Rattle.branching.specs.Bits.{counts_two, below_pow}
 use Rattle.model.specs.Masks.{grp, chan}
-use Rattle.model.specs.Decisions.{Decision, taken, refused, takens, Branch, Nogood}
-use Rattle.model.specs.Words.{decision, branch_of, base_of, recorded}
-use Rattle.model.specs.Remains.{Family, family, Dead, Alive}
+use Rattle.model.specs.Decisions.{taken, refused}
+use Rattle.model.specs.Words.{decision, branch_of, base_of}
+use Rattle.model.specs.Remains.{family, Dead, Alive}
 use Rattle.model.specs.Moves.{State, deciding}
 use Rattle.model.proofs.Formed.{Whole, whole_move, free}
 use Rattle.model.proofs.Marked.{branch_few}
@@ -19,16 +17,16 @@ use Rattle.model.proofs.Remains.{remains_one}
 use Rattle.model.proofs.Words.{is_refused}
 use Rattle.propagation.specs.Filtered.{Lives, Dies}
 use Rattle.laws.specs.Orders.{behaviour, cutoffs}
-use Rattle.laws.specs.Sittings.{Search, begun, Leaves, Going, dead, wide, Turn, close, restart, decide, after_close, after_restart, after_decide}
+use Rattle.laws.specs.Sittings.{begun, Leaves, dead, wide, close, restart, decide, after_close, after_restart, after_decide}
 use Rattle.laws.proofs.Orders.{behaves, cuts_off}
-use Rattle.laws.proofs.Masks.{has-Has, Has-has}
+use Rattle.laws.proofs.Masks.{Has-has}
 use Rattle.laws.proofs.Filter.{remaining, remaining_leaves}
 use Rattle.laws.proofs.Total.{two_wide}
 use Rattle.laws.proofs.Sittings.{turn_move}
 use Rattle.search.specs.declared.held.Progress.{Progress}
 use Rattle.search.specs.declared.turns.Step.{Step}
 use Rattle.search.specs.declared.turns.Step.TheVariants.{None as EndsNone, Plan, Spent, Moved as Went, Decided}
-use Rattle.search.specs.Turns.{state_of, Fit, Fresh, DueAt, DeadTurn, RestartTurn, DecideTurn, AliveTurn, Same, Moved, Turned}
+use Rattle.search.specs.Turns.{state_of, Fit, Fresh, DeadTurn, AliveTurn, Moved, Turned}
 
 pub length_branch_of : (ws : List ℕ) (n : ℕ) → length (branch_of ws n) ≡ n
 length_branch_of ws zero = refl

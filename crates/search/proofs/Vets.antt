@@ -1,11 +1,11 @@
 -- The tests that a call makes, step by step.
-use Rattle.std.proofs.Common.{◌≡◌, ℕ, zero, suc, ◌+◌, ◌-◌, ◌*◌, ◌<◌, ◌≤◌, Bool, true, false, not, ◌&&◌, eqb, ltb, ◌≢◌, ◌⊎◌, List, [], ◌∷◌, ◌++◌, length, get_or, take, drop, set, Some, None, sym, refl, ap, ◌∙◌, subst, inl, inr, add-one, arith, get_or-set_other, get_or-set_same}
+use Rattle.std.proofs.Common.{◌≡◌, ℕ, zero, suc, ◌+◌, ◌-◌, ◌<◌, ◌≤◌, Bool, true, false, not, ◌&&◌, eqb, ltb, ◌≢◌, List, [], ◌∷◌, ◌++◌, length, get_or, take, drop, set, Some, None, sym, refl, ap, ◌∙◌, subst, inl, inr, add-one, arith, get_or-set_other, get_or-set_same}
 use Rattle.std.proofs.lemmas.List.{at_drop_more, take_more, take_all, length-drop, drop-drop}
-use Rattle.std.proofs.lemmas.Bool.{cases_eq, cases_Bool, eq-eqb, ne_eqb, lt-ltb, le-ltb, ltb-true, ltb-false, and_parts, and_left, and_from, false≢true, both_ways}
+use Rattle.std.proofs.lemmas.Bool.{cases_eq, cases_Bool, eq-eqb, ne_eqb, lt-ltb, le-ltb, ltb-true, ltb-false, and_parts, false≢true}
 use Rattle.rules.specs.Channels.{has}
 use Rattle.model.specs.Masks.{grp, chan}
 use Rattle.model.specs.Lists.{all}
-use Rattle.model.specs.Decisions.{Decision, taken, refused, word}
+use Rattle.model.specs.Decisions.{Decision, refused, word}
 use Rattle.model.specs.Words.{decision, branch_of}
 use Rattle.model.proofs.Words.{is_taken}
 use Rattle.laws.specs.Words.{listed?, free?, branch?, apart?, some?, nogood?, base?}

@@ -1,7 +1,6 @@
 -- What a call on a search is given, and what it answers and leaves.
 use Rattle.std.specs.Prelude.{◌≡◌, ℕ, ◌+◌, ◌*◌, ◌<◌, ◌&&◌, List, [], ◌∷◌, length, take, nat_le, nat_lt, slice_index}
 use Rattle.rules.specs.Channels.{has}
-use Rattle.rules.specs.Meanings.{Meaning}
 use Rattle.model.specs.Masks.{grp, chan}
 use Rattle.model.specs.Decisions.{Decision, reduced}
 use Rattle.model.specs.Words.{branch_of, recorded}

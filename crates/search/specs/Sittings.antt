@@ -1,5 +1,5 @@
 -- What an open and a sitting answer, and what each region then holds.
-use Rattle.std.specs.Prelude.{◌≡◌, ℕ, ◌⊎◌, List, [], length, take, drop, Some, None, Ok, Err, Result}
+use Rattle.std.specs.Prelude.{◌≡◌, ℕ, ◌⊎◌, List, length, take, drop, Some, None, Ok, Err, Result}
 use Rattle.rules.specs.Meanings.{Meaning, Lawful}
 use Rattle.rules.specs.Refusals.{told}
 use Rattle.rules.specs.declared.refusal.Refusal.{Refusal}
@@ -21,7 +21,6 @@ use Rattle.search.specs.declared.held.OpenSearch.{OpenSearch}
 use Rattle.search.specs.declared.held.SettledSearch.{SettledSearch}
 use Rattle.search.specs.declared.held.Sat.{Sat}
 use Rattle.search.specs.declared.held.Sat.TheVariants.{Plan as SatPlan, None as SatNone, Open as SatOpen}
-use Rattle.search.specs.declared.vetting.Sizes.{Sizes}
 use Rattle.search.specs.Turns.{state_of, Beyond, KeptWords}
 use Rattle.search.specs.Calls.{asking, opening}
 

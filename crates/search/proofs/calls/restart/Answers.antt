@@ -1,4 +1,4 @@
-use Rattle.std.proofs.Common.{◌≡◌, ℕ, ◌+◌, ◌≤◌, List, ◌++◌, length, take, drop, sym, refl, ap, ◌∙◌, inr, arith}
+use Rattle.std.proofs.Common.{◌≡◌, ℕ, ◌+◌, List, ◌++◌, length, take, drop, sym, refl, ap, ◌∙◌, inr, arith}
 use Rattle.model.specs.Decisions.{reduced}
 use Rattle.model.specs.Words.{branch_of, recorded}
 use Rattle.model.specs.Moves.{nogoods, restarting}

@@ -1,9 +1,9 @@
-use Rattle.std.proofs.Common.{◌≡◌, ℕ, ◌+◌, ◌-◌, ◌*◌, ◌^◌, ◌<◌, ◌≤◌, true, false, [], length, get_or, take, drop, sym, refl, ap, ◌∙◌, subst, inl, inr, arith}
+use Rattle.std.proofs.Common.{ℕ, ◌^◌, ◌<◌, ◌≤◌, true, false, [], length, get_or, take, drop, sym, refl, ap, ◌∙◌, subst, inl, inr, arith}
 use lib.Count.{count_trailing_zeros}
 use Rattle.std.proofs.lemmas.List.{length-take-le, get_or-take}
 use Rattle.std.proofs.lemmas.Bool.{false≢true}
 use Rattle.model.specs.Moves.{State}
-use Rattle.laws.specs.Sittings.{Search, Sits, none, plan, unsettled, ends_none, ends_plan, spent}
+use Rattle.laws.specs.Sittings.{Sits, none, plan, unsettled, ends_none, ends_plan, spent}
 use Rattle.laws.specs.Orders.{behaviour, cutoffs}
 use Rattle.search.specs.Turns.{state_of}
 use Rattle.rules.specs.Refusals.{told}

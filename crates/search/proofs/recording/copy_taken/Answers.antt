@@ -1,4 +1,4 @@
-use Rattle.std.proofs.Common.{◌≡◌, ◌+◌, ◌<◌, ◌++◌, length, drop, sym, ap, ◌∙◌, arith}
+use Rattle.std.proofs.Common.{◌+◌, ◌<◌, ◌++◌, length, drop, sym, ap, ◌∙◌, arith}
 use Rattle.model.specs.Decisions.{takens}
 use Rattle.model.specs.Words.{branch_of}
 use Rattle.search.proofs.Marks.{takens_room, takens_refused, copy_step}

@@ -1,6 +1,6 @@
-use Rattle.std.proofs.Common.{◌≡◌, ℕ, ◌+◌, ◌-◌, ◌<◌, ◌≤◌, List, [], ◌∷◌, ◌++◌, length, get_or, take, drop, sym, ap, ◌∙◌, one-add, arith, length-append, take-append-drop}
+use Rattle.std.proofs.Common.{◌≡◌, ℕ, ◌+◌, ◌-◌, ◌<◌, ◌≤◌, List, ◌∷◌, ◌++◌, length, get_or, take, drop, sym, ap, ◌∙◌, one-add, arith, length-append, take-append-drop}
 use Rattle.std.proofs.lemmas.List.{take_rest, length-drop}
-use Rattle.model.specs.Decisions.{takens, reduced}
+use Rattle.model.specs.Decisions.{reduced}
 use Rattle.model.specs.Words.{branch_of, recorded}
 use Rattle.search.specs.Branches.{nogood_at}
 use Rattle.search.proofs.Marks.{nogood_room, reduced_taken, reduced_refused, recorded_push}

@@ -1,11 +1,10 @@
-use Rattle.std.proofs.Common.{◌≡◌, ℕ, ◌-◌, ◌<◌, ◌≤◌, List, length, get_or, take, sym, refl, ap, ◌∙◌, subst, arith}
+use Rattle.std.proofs.Common.{◌≡◌, ℕ, ◌-◌, ◌<◌, ◌≤◌, List, length, get_or, take, sym, ap, ◌∙◌, subst, arith}
 use Rattle.std.specs.List.{AllByRecursion}
 use Rattle.model.specs.Masks.{grp}
-use Rattle.model.specs.Decisions.{Decision, word, taken}
+use Rattle.model.specs.Decisions.{Decision, word}
 use Rattle.model.specs.Words.{decision, branch_of, base_of}
 use Rattle.model.proofs.Words.{is_taken}
 use Rattle.propagation.specs.Bases.{Grouped}
-use Rattle.search.specs.Turns.{Fit}
 use Rattle.search.proofs.Fronts.{less_none, front_length, front_word, front_branch, whole_branch, listed_word, all_grouped, lives_at, dies_at}
 use Rattle.search.proofs.turns.refresh.Goals as goal
 

@@ -1,7 +1,7 @@
-use Rattle.std.proofs.Common.{◌≡◌, ℕ, ◌+◌, ◌-◌, ◌*◌, ◌<◌, ◌≤◌, List, length, get_or, take, drop, sym, refl, ap, ◌∙◌, subst, arith}
+use Rattle.std.proofs.Common.{◌≡◌, ℕ, ◌-◌, ◌*◌, ◌≤◌, length, take, drop, sym, refl, ap, ◌∙◌, subst, arith}
 use Rattle.std.proofs.lemmas.List.{length-take-le}
 use Rattle.branching.specs.Channels.{Open}
-use Rattle.model.specs.Words.{branch_of, base_of, recorded}
+use Rattle.model.specs.Words.{base_of, recorded}
 use Rattle.search.specs.Turns.{state_of}
 use Rattle.search.proofs.Turning.{dead_masks, live_masks, spare, turned_dead, turned_alive, turned_whole, fit_whole, fresh_from, length_branch_of, alive_at, not_decided, decided_state}
 use Rattle.search.proofs.States.{past_more}

@@ -1,8 +1,8 @@
-use Rattle.std.proofs.Common.{◌≡◌, ℕ, ◌+◌, ◌*◌, ◌^◌, ◌<◌, ◌≤◌, List, ◌++◌, length, get_or, take, drop, set, sym, refl, ap, ◌∙◌, subst, arith}
+use Rattle.std.proofs.Common.{◌≡◌, ◌+◌, ◌*◌, ◌^◌, ◌<◌, ◌++◌, length, get_or, take, drop, sym, refl, ap, ◌∙◌, arith}
 use Rattle.model.specs.Decisions.{reduced}
 use Rattle.model.specs.Words.{branch_of, base_of, recorded}
 use Rattle.search.specs.declared.held.Progress.{Progress}
-use Rattle.search.specs.Turns.{state_of, restarted_at, decided_at}
+use Rattle.search.specs.Turns.{state_of, decided_at}
 use Rattle.search.proofs.States.{all_words, restarting_state, restarted_words, past_words, deciding_state, past_set}
 use Rattle.search.proofs.Choices.{group_open, channel_has, word_small}
 use Rattle.search.proofs.turns.turn_alive.Goals as goal

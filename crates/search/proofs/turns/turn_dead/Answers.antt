@@ -1,4 +1,4 @@
-use Rattle.std.proofs.Common.{◌≡◌, ◌<◌, ◌≤◌, sym, refl, ap, ◌∙◌, arith}
+use Rattle.std.proofs.Common.{◌≡◌, sym, refl, ap, ◌∙◌, arith}
 use Rattle.search.specs.declared.held.Progress.{Progress}
 use Rattle.search.specs.Turns.{state_of, closed_at}
 use Rattle.search.proofs.States.{closing_state, blamed_last, last_some, past_set}

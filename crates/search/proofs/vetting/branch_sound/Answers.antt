@@ -1,6 +1,5 @@
-use Rattle.std.proofs.Common.{◌≡◌, length, get_or, sym, refl, ap, ◌∙◌, arith}
-use Rattle.model.specs.Words.{decision, branch_of}
-use Rattle.search.specs.Calls.{FreeFor}
+use Rattle.std.proofs.Common.{length, sym, refl, ◌∙◌}
+use Rattle.model.specs.Words.{branch_of}
 use Rattle.search.proofs.Vets.{branch_more, branch_fails, listed_free, branch_step}
 use Rattle.search.proofs.vetting.branch_sound.Goals as goal
 

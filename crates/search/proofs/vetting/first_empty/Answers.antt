@@ -1,4 +1,4 @@
-use Rattle.std.proofs.Common.{◌≡◌, sym, ap, ◌∙◌, arith}
+use Rattle.std.proofs.Common.{ap, ◌∙◌, arith}
 use Rattle.laws.specs.Requests.{empty_from}
 use Rattle.std.proofs.lemmas.List.{drop_all}
 use Rattle.search.proofs.Vets.{empty_here, empty_later}

@@ -1,4 +1,4 @@
-use Rattle.std.proofs.Common.{◌≡◌, ◌<◌, length, sym, ◌∙◌, arith, rules}
+use Rattle.std.proofs.Common.{sym, ◌∙◌, rules}
 use Rattle.search.proofs.Vets.{nogood_taken, nogood_empty, nogood_refused}
 use Rattle.search.proofs.vetting.nogood_sound.Goals as goal
 

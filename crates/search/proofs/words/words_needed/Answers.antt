@@ -1,4 +1,4 @@
-use Rattle.std.proofs.Common.{sym, ap, ◌∙◌, arith}
+use Rattle.std.proofs.Common.{◌∙◌, arith}
 use Rattle.search.proofs.Marks.{count_taken, count_refused}
 use Rattle.search.proofs.words.words_needed.Goals as goal
 use Rattle.search.proofs.words.words_needed.Goals.{then-branch-i-lt65536, else-branch-i-lt65536}
