@@ -26,7 +26,7 @@ use Rattle.jobs.specs.declared.load.Loaded.{Loaded}
 use Rattle.jobs.specs.Jobs.{State as Job, held}
 use Rattle.jobs.specs.Books.{book_at, book_of}
 use Rattle.planner.specs.declared.solve.Found.{Found}
-use Rattle.planner.specs.Answers.{Came, Stands, Goes_on, Comes, reached}
+use Rattle.planner.specs.Answers.{Came, Stands, GoesOn, Comes, reached}
 
 -- The state that equal words stand for.
 same_state : (p : Progress) (a a' b b' : List ℕ) → a ≡ a' → b ≡ b' → state_of p a b ≡ state_of p a' b'
@@ -40,7 +40,7 @@ module _ {O P H Q : Type 0} (om : OrderMeaning H) (pm : PolicyMeaning Q) (oh : O
   ended : (v : Reached) (p : Progress) (r : ComesTo om pm oh ph book s lists allowance found left v p) (c : Counts) → Tells c r.end.state → Stands book lists s branch base → Came book lists v c
   ended v p r c t run = let n = r.continues (passed run) in (r.end.state, n.0, n.2, t)
 
-  pub goes : (sat : Sat) → Answers om pm oh ph book s lists allowance found left (Ok sat) → Goes_on book lists s branch base left.branch left.base left.plan sat
+  pub goes : (sat : Sat) → Answers om pm oh ph book s lists allowance found left (Ok sat) → GoesOn book lists s branch base left.branch left.base left.plan sat
   goes (SatPlan d) a = λ run. ended (plan (take (length lists) left.plan)) a.0.0 a.0.1 d.counts a.0.2 run
   goes (SatNone d) a = λ run. ended none a.0.0 a.0.1 d.counts a.0.2 run
   goes (SatOpen t) a = λ run.
@@ -50,26 +50,26 @@ module _ {O P H Q : Type 0} (om : OrderMeaning H) (pm : PolicyMeaning Q) (oh : O
 
   -- The same by other names of what it left.
   pub goes_to : (sat : Sat) (branch' base' bytes : List ℕ) → left.branch ≡ branch' → left.base ≡ base' → left.plan ≡ bytes
-      → Answers om pm oh ph book s lists allowance found left (Ok sat) → Goes_on book lists s branch base branch' base' bytes sat
+      → Answers om pm oh ph book s lists allowance found left (Ok sat) → GoesOn book lists s branch base branch' base' bytes sat
   goes_to sat branch' base' bytes e f h a =
-      subst (λ (x : List ℕ). Goes_on book lists s branch base branch' base' x sat) h
-      (subst (λ (x : List ℕ). Goes_on book lists s branch base branch' x left.plan sat) f
-      (subst (λ (x : List ℕ). Goes_on book lists s branch base x left.base left.plan sat) e (goes sat a)))
+      subst (λ (x : List ℕ). GoesOn book lists s branch base branch' base' x sat) h
+      (subst (λ (x : List ℕ). GoesOn book lists s branch base branch' x left.plan sat) f
+      (subst (λ (x : List ℕ). GoesOn book lists s branch base x left.base left.plan sat) e (goes sat a)))
 
 -- What a vector holds after its slice was lent on: the slice.
 pub lent_back : {X Z : Type 0} (v : Vec X Z) (ws : List X) → length ws ≡ length (vec_items v) → ws ≡ vec_items (with_items v ws)
 lent_back v ws e = sym (take_at ws (drop (length ws) v.items) v.len (e ∙ sym v.ok.0))
 
 -- What a sitting came to, by its answer.
-module _ (book : Meaning) (lists : List ℕ) (s : OpenSearch) (branch base branch' base' bytes : List ℕ) (sat : Sat) (d : SettledSearch) (c : Counts) (counts : c ≡ d.counts) (goes_on : Goes_on book lists s branch base branch' base' bytes sat) where
+module _ (book : Meaning) (lists : List ℕ) (s : OpenSearch) (branch base branch' base' bytes : List ℕ) (sat : Sat) (d : SettledSearch) (c : Counts) (counts : c ≡ d.counts) (goes_on : GoesOn book lists s branch base branch' base' bytes sat) where
   pub came_plan : sat ≡ SatPlan d → Stands book lists s branch base → Came book lists (plan (take (length lists) bytes)) c
   came_plan e run =
-      let f : Goes_on book lists s branch base branch' base' bytes (SatPlan d) = subst (λ (x : Sat). Goes_on book lists s branch base branch' base' bytes x) e goes_on in
+      let f : GoesOn book lists s branch base branch' base' bytes (SatPlan d) = subst (λ (x : Sat). GoesOn book lists s branch base branch' base' bytes x) e goes_on in
       subst (λ (n : Counts). Came book lists (plan (take (length lists) bytes)) n) (sym counts) (f run)
 
   pub came_none : sat ≡ SatNone d → Stands book lists s branch base → Came book lists none c
   came_none e run =
-      let f : Goes_on book lists s branch base branch' base' bytes (SatNone d) = subst (λ (x : Sat). Goes_on book lists s branch base branch' base' bytes x) e goes_on in
+      let f : GoesOn book lists s branch base branch' base' bytes (SatNone d) = subst (λ (x : Sat). GoesOn book lists s branch base branch' base' bytes x) e goes_on in
       subst (λ (n : Counts). Came book lists none n) (sym counts) (f run)
 
 -- From the opening on, the sittings made a run.

@@ -52,10 +52,10 @@ abbrev pub Stands : Meaning → List ℕ → OpenSearch → List ℕ → List �
 Stands book lists s branch base = Run lists book unsettled (state_of s.at branch base)
 
 -- What a sitting makes of every run that came to what it was given: with the branch, the base and the plan that it left.
-abbrev pub Goes_on : Meaning → List ℕ → OpenSearch → List ℕ → List ℕ → List ℕ → List ℕ → List ℕ → Sat → Type 0
-Goes_on book lists s branch base branch' base' bytes (SatPlan d) = Stands book lists s branch base → Came book lists (plan (take (length lists) bytes)) d.counts
-Goes_on book lists s branch base branch' base' bytes (SatNone d) = Stands book lists s branch base → Came book lists none d.counts
-Goes_on book lists s branch base branch' base' bytes (SatOpen t) = Stands book lists s branch base → (run : Stands book lists t branch' base') × Law lists book run
+abbrev pub GoesOn : Meaning → List ℕ → OpenSearch → List ℕ → List ℕ → List ℕ → List ℕ → List ℕ → Sat → Type 0
+GoesOn book lists s branch base branch' base' bytes (SatPlan d) = Stands book lists s branch base → Came book lists (plan (take (length lists) bytes)) d.counts
+GoesOn book lists s branch base branch' base' bytes (SatNone d) = Stands book lists s branch base → Came book lists none d.counts
+GoesOn book lists s branch base branch' base' bytes (SatOpen t) = Stands book lists s branch base → (run : Stands book lists t branch' base') × Law lists book run
 
 -- What the sittings together make of it.
 abbrev pub Comes : Meaning → List ℕ → OpenSearch → List ℕ → List ℕ → List ℕ → Found × Counts → Type 0

@@ -2,7 +2,7 @@
 ghost use Rattle.std.specs.Prelude.{◌≡◌, ◌<◌, ◌≤◌, length, IfOk, Err, vec_len, MatchResult};
 ghost use Rattle.rules.specs.declared.refusal.Refusal.TheVariants.{NoPlace};
 ghost use Rattle.planner.specs.declared.error.PlanError.TheVariants.{Refused};
-ghost use Rattle.planner.specs.Answers.{Shaped, Kept, Goes_on, Comes, reached, told_by, Answered, Unanswered};
+ghost use Rattle.planner.specs.Answers.{Shaped, Kept, GoesOn, Comes, reached, told_by, Answered, Unanswered};
 
 use crate::answer::{Answer, Verdict};
 use crate::error::PlanError;
@@ -52,7 +52,7 @@ fn sit<B: RuleBook, O: Order, P: RestartPolicy>(
     regions: &mut Regions,
 ) -> Result<Sat, PlanError>
     ensures kept { Kept regions.old regions.new }
-    ensures goes_on { IfOk result (λ t. Goes_on (B.RuleBook.meaning book.now) lists.now «search» regions.old.branch.items regions.old.base.items regions.new.branch.items regions.new.base.items regions.new.plan.items t) }
+    ensures goes_on { IfOk result (λ t. GoesOn (B.RuleBook.meaning book.now) lists.now «search» regions.old.branch.items regions.old.base.items regions.new.branch.items regions.new.base.items regions.new.plan.items t) }
 {
     let sat = sitting(
         search,
