@@ -1,7 +1,7 @@
 // Restart policies by what they answer and hold: geometric and steady.
 ghost use Rattle.std.specs.Prelude.{◌≡◌, ℕ, ◌+◌, ◌/◌, ◌<◌, ◌≤◌};
 ghost use Rattle.branching.specs.Policy.{PolicyMeaning, LawfulPolicy, geometric, steady, clamped};
-ghost use Rattle.std.proofs.Common.{arith};
+ghost use Rattle.branching.specs.PolicyLemmas.{geometric_lawful, steady_lawful};
 
 pub trait RestartPolicy {
     ghost Held: { Type 0 };
@@ -40,7 +40,7 @@ impl RestartPolicy for Geometric {
 
     ghost meaning = { geometric };
 
-    ghost lawful = { record { positive = λ h. omega arith } };
+    ghost lawful = { geometric_lawful };
 
     fn cutoff(&self) -> u32 {
         self.value
@@ -85,7 +85,7 @@ impl RestartPolicy for Steady {
 
     ghost meaning = { steady };
 
-    ghost lawful = { record { positive = λ h. omega arith } };
+    ghost lawful = { steady_lawful };
 
     fn cutoff(&self) -> u32 {
         self.value

@@ -1,6 +1,6 @@
 // The book of a loaded job.
 ghost use Rattle.std.specs.Prelude.{◌≡◌, take};
-ghost use Rattle.rules.specs.Gaps.{gaps as gapsOf};
+ghost use Rattle.rules.specs.Gaps.{gaps as gaps_of};
 ghost use Rattle.rules.specs.Joins.{joined};
 ghost use Rattle.rules.specs.Tables.{tables as tables_of};
 ghost use Rattle.jobs.specs.Books.{book_at, LoadedBook};
@@ -34,7 +34,7 @@ pub fn book<'j, 'g, 't>(
     ensures near { result.first.entries.now ≡ take n.gaps gaps.now }
     ensures job { result.second.job.now ≡ job.now }
     ensures far { result.second.entries.now ≡ take n.tables tables.now }
-    ensures stands { joined (gapsOf result.first.groups result.first.entries.now) (tables_of result.second.groups result.second.job.now result.second.entries.now) ≡ book_at job.now n gaps.now tables.now }
+    ensures stands { joined (gaps_of result.first.groups result.first.entries.now) (tables_of result.second.groups result.second.job.now result.second.entries.now) ≡ book_at job.now n gaps.now tables.now }
     ensures loaded { LoadedBook }
 {
     let near = front(gaps, n.gaps);

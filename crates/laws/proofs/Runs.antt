@@ -21,14 +21,14 @@ use Rattle.laws.proofs.Spare.{Spare, spare_move, spare_few}
 use Rattle.laws.proofs.Refusals.{open_agrees, open_some, restart_since, restart_fits}
 
 -- A move with some room is one with more.
-module _ (lists : List ℕ) (book : Meaning) (room more_Room : ℕ) (le : room ≤ more_Room) where
-  wider_move : (s t : State) → Move lists book room s t → Move lists book more_Room s t
+module _ (lists : List ℕ) (book : Meaning) (room more_room : ℕ) (le : room ≤ more_room) where
+  wider_move : (s t : State) → Move lists book room s t → Move lists book more_room s t
   wider_move s t (may_close k l d some) = may_close k l d some
   wider_move s t (may_restart k l a w c one due fits) = may_restart k l a w c one due (le_trans fits le)
   wider_move s t (may_decide k l a w c kept other ne) = may_decide k l a w c kept other ne
   wider_move s t (called one fits) = called one (le_trans fits le)
 
-  wider : (s t : State) → Reach lists book room s t → Reach lists book more_Room s t
+  wider : (s t : State) → Reach lists book room s t → Reach lists book more_room s t
   wider s t here = here
   wider s t (more {t = m} run move) = more (wider s m run) (wider_move m t move)
 

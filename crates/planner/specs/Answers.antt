@@ -19,7 +19,7 @@ use Rattle.search.specs.declared.held.Sat.TheVariants.{Plan as SatPlan, None as 
 use Rattle.search.specs.Turns.{state_of}
 use Rattle.search.specs.Sittings.{Tells}
 use Rattle.planner.specs.declared.solve.Found.{Found}
-use Rattle.planner.specs.declared.solve.Found.TheVariants.{Plan as Found-plan, None as Found-none, Open as Found-open}
+use Rattle.planner.specs.declared.solve.Found.TheVariants.{Plan as FoundPlan, None as FoundNone, Open as FoundOpen}
 use Rattle.planner.specs.Stores.{places, Unstored}
 
 -- a plan has one channel for each of n groups
@@ -34,9 +34,9 @@ Kept r s = (vec_len s.plan ≡ vec_len r.plan) × (vec_len s.base ≡ vec_len r.
 
 -- The verdict of the sittings, with the bytes of a plan; and that of an answer.
 abbrev pub reached : List ℕ → Found → Reached
-reached bytes Found-plan = plan bytes
-reached bytes Found-none = none
-reached bytes Found-open = unsettled
+reached bytes FoundPlan = plan bytes
+reached bytes FoundNone = none
+reached bytes FoundOpen = unsettled
 
 abbrev pub told_by : Verdict → Reached
 told_by (Plan v) = plan (vec_items v)

@@ -1,6 +1,6 @@
 // Why there is no answer: the job is refused, or memory is wanting.
 ghost use Rattle.std.specs.Prelude.{◌≡◌};
-ghost use Rattle.planner.specs.declared.error.PlanError.TheVariants.{Refused as refusedBy, NoMemory};
+ghost use Rattle.planner.specs.declared.error.PlanError.TheVariants.{Refused as refused_by, NoMemory};
 
 use rules::refusal::Refusal;
 use std::alloc::{AllocError, AllocFailed as Unplaced};
@@ -15,7 +15,7 @@ pub enum PlanError {
 }
 
 impl From<Refusal> for PlanError {
-    ghost from_gives = { λ e r. r ≡ refusedBy e };
+    ghost from_gives = { λ e r. r ≡ refused_by e };
 
     fn from(e: Refusal) -> PlanError {
         PlanError::Refused(e)

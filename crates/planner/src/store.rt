@@ -1,6 +1,6 @@
 // The memory that a job is loaded into.
 ghost use Rattle.std.specs.Prelude.{◌≡◌, ◌≤◌, IfOk, vec_len, MatchResult};
-ghost use Rattle.jobs.specs.Jobs.{lent, room as roomOf};
+ghost use Rattle.jobs.specs.Jobs.{lent, room as room_of};
 ghost use Rattle.planner.specs.Stores.{Taken, Faulty, Stored, Unstored};
 
 use crate::error::PlanError;
@@ -42,7 +42,7 @@ fn fill(
     gaps: &mut Vec<GapEntry>,
     tables: &mut Vec<TableEntry>,
 ) -> Result<Loaded, LoadFault>
-    ensures taken { MatchResult result (λ n. Taken job.now (roomOf (lent lists.old.items gaps.old.items tables.old.items)) n lists.new.items gaps.new.items tables.new.items) (λ f. Faulty job.now (roomOf (lent lists.old.items gaps.old.items tables.old.items)) f) }
+    ensures taken { MatchResult result (λ n. Taken job.now (room_of (lent lists.old.items gaps.old.items tables.old.items)) n lists.new.items gaps.new.items tables.new.items) (λ f. Faulty job.now (room_of (lent lists.old.items gaps.old.items tables.old.items)) f) }
     ensures few { (vec_len lists.new ≤ vec_len lists.old) × (vec_len gaps.new ≤ vec_len gaps.old) × (vec_len tables.new ≤ vec_len tables.old) }
 {
     let loaded = load(job, lists, gaps, tables)?;

@@ -1,6 +1,6 @@
 // The check of a plan against the lists and a book.
 ghost use Rattle.std.specs.Prelude.{◌≡◌, ◌<◌, length, OnOk, slice_index};
-ghost use Rattle.rules.specs.Checks.{lowest, counts_fit, channel_in, unlisted, broken as brokenAt, check_refusal, Checked};
+ghost use Rattle.rules.specs.Checks.{lowest, counts_fit, channel_in, unlisted, broken as broken_at, check_refusal, Checked};
 ghost use Rattle.rules.specs.Plans.{Plan};
 
 use super::book::RuleBook;
@@ -46,7 +46,7 @@ fn permits_pair<B: RuleBook>(book: &B, plan: &[u8], rule: u32, g: u16, h: u16) -
 // Whether a rule binds and does not permit the channels of its two groups.
 fn breaks<B: RuleBook>(book: &B, plan: &[u8], rule: u32) -> bool
     requires { (B.meaning book.now).groups ≡ length plan.now }
-    ensures { result ≡ brokenAt (B.meaning book.now) plan.now rule }
+    ensures { result ≡ broken_at (B.meaning book.now) plan.now rule }
 {
     match book.ends(rule) {
         Some((g, h)) => !permits_pair(book, plan, rule, g, h),
@@ -57,7 +57,7 @@ fn breaks<B: RuleBook>(book: &B, plan: &[u8], rule: u32) -> bool
 // The lowest rule that the plan breaks.
 fn first_broken<B: RuleBook>(book: &B, plan: &[u8]) -> Option<u32>
     requires { (B.meaning book.now).groups ≡ length plan.now }
-    ensures { result ≡ lowest (brokenAt (B.meaning book.now) plan.now) (B.meaning book.now).count }
+    ensures { result ≡ lowest (broken_at (B.meaning book.now) plan.now) (B.meaning book.now).count }
 {
     for rule in 0..book.count() {
         if breaks(book, plan, rule) {

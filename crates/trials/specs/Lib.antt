@@ -1,3 +1,4 @@
 pub mod Alternating
 pub mod Highest
 pub mod Tops
+pub mod AlternatingLemmas

@@ -2,7 +2,7 @@
 ghost use Rattle.std.specs.Prelude.{◌≡◌, ℕ, ◌≤◌, max};
 ghost use Rattle.branching.specs.Policy.{PolicyMeaning, LawfulPolicy};
 ghost use Rattle.trials.specs.Alternating.{Cutoffs, alternating};
-ghost use Rattle.std.proofs.Common.{rules};
+ghost use Rattle.trials.specs.AlternatingLemmas.{alternating_lawful};
 
 use branching::RestartPolicy;
 
@@ -31,7 +31,7 @@ impl RestartPolicy for Alternating {
 
     ghost meaning = { alternating };
 
-    ghost lawful = { Prim.search rules };
+    ghost lawful = { alternating_lawful };
 
     fn cutoff(&self) -> u32 {
         self.now.max(1)
