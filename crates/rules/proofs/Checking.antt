@@ -1,11 +1,10 @@
 -- What each answer of a check means.
-use Rattle.std.proofs.Common.{◌≡◌, ℕ, ◌<◌, Bool, true, false, cond, not, eqb, ltb, leb, List, length, get_or, Some, None, Option, sym, refl, ap, ◌∙◌, subst, ⊎_elim, arith, MatchOption}
-use Rattle.std.proofs.lemmas.List.{get_or_default}
+use Rattle.std.proofs.Common.{◌≡◌, ℕ, ◌<◌, Bool, true, false, cond, eqb, ltb, leb, List, length, get_or, Some, None, Option, sym, refl, ap, ◌∙◌, subst, ⊎_elim, arith, MatchOption}
 use Rattle.std.proofs.lemmas.Bool.{false≢true, and_parts, and_from, not-false, not-true, not_from_true, not_from_false, ltb-true, lt-ltb, leb-true, le-leb, eqb-true, eq-eqb, cond-true, cases_lt, cases_Bool, both_ways}
-use Rattle.rules.specs.Channels.{has}
+use Rattle.rules.specs.Channels.{has, channel_in}
 use Rattle.rules.specs.Meanings.{Meaning, Lawful}
 use Rattle.rules.specs.Plans.{Listed, Complete, BreaksAt, Breaks, Plan}
-use Rattle.rules.specs.Checks.{or_else, lowest, placed_at, counts_fit, channel_in, unlisted, broken_by, broken, Counted, FirstUnlisted, FirstBroken, CheckMeans, CheckFindsPlans}
+use Rattle.rules.specs.Checks.{or_else, lowest, placed_at, counts_fit, unlisted, broken_by, broken, Counted, FirstUnlisted, FirstBroken, CheckMeans, CheckFindsPlans}
 use Rattle.rules.specs.declared.refusal.Refusal.{Refusal}
 use Rattle.rules.specs.declared.refusal.Refusal.TheVariants.{Counts, NotListed, RuleBroken}
 use Rattle.rules.proofs.Firsts.{First, lowest_none, lowest_tells}
@@ -139,13 +138,3 @@ module _ (lists : List ℕ) (book : Meaning) (x : List ℕ) where
 
 pub check_finds_plans : CheckFindsPlans
 check_finds_plans lists book x law = check_means lists book x law
-
--- the same tests as the code makes them, which reads no byte past the plan's end
-pub unlisted_read : (lists x : List ℕ) (g : ℕ) (r : Bool) → g < length x → r ≡ channel_in (get_or lists g 0) (get_or x g 0) → unlisted lists x g ≡ not r
-unlisted_read lists x g r l e = ap (λ c. not (channel_in (get_or lists g 0) c)) (get_or_default x g 64 0 l) ∙ ap not (sym e)
-
-pub broken_read : (book : Meaning) (x : List ℕ) (i a b : ℕ) (r : Bool) → Some (a, b) ≡ book.ends i → a < length x → b < length x →
-    r ≡ book.permits i (get_or x a 0) (get_or x b 0) → not r ≡ broken book x i
-broken_read book x i a b r e k l p =
-    ap not (p ∙ (ap (λ c. book.permits i c (get_or x b 0)) (get_or_default x a 0 64 k) ∙ ap (λ c. book.permits i (get_or x a 64) c) (get_or_default x b 0 64 l)))
-    ∙ ap (λ (o : Option (ℕ × ℕ)). broken_by o book x i) e

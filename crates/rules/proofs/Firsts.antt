@@ -1,5 +1,7 @@
 -- The lowest number that passes a test.
-use Rattle.std.proofs.Common.{◌≡◌, ℕ, zero, suc, ◌<◌, Bool, true, false, cond, Some, None, Option, sym, refl, ap, ◌∙◌, subst, ⊎_elim, arith, MatchOption}
+use Rattle.std.proofs.Common.{◌≡◌, ℕ, zero, suc, ◌<◌, ◌≤◌, Bool, true, false, cond, List, length, get_or, Some, None, Option, sym, refl, ap, ◌∙◌, subst, ⊎_elim, arith, MatchOption}
+use Rattle.std.specs.List.{zip, AllWithin, HoldsAt}
+use Rattle.std.proofs.lemmas.Slice.Zip.{get_or-zip, length-zip}
 use Rattle.std.proofs.lemmas.Bool.{cond-true, cond-false, cond_both, cases_lt}
 use Rattle.rules.specs.Checks.{or_else, lowest}
 
@@ -37,3 +39,40 @@ tells_more t n None h =
 pub lowest_tells : (t : ℕ → Bool) (n : ℕ) → MatchOption (lowest t n) ((k : ℕ) → k < n → t k ≡ false) (First t n)
 lowest_tells t zero = λ k l. absurd (omega arith)
 lowest_tells t (suc n) = tells_more t n (lowest t n) (lowest_tells t n)
+
+-- what a search in the order of the numbers finds is the lowest
+pub lowest_is : (t : ℕ → Bool) (n : ℕ) (r : Option ℕ) → MatchOption r ((k : ℕ) → k < n → t k ≡ false) (First t n) → r ≡ lowest t n
+lowest_is t n None h = sym (lowest_none t n h)
+lowest_is t n (Some i) h = sym (lowest_at t n i h.within h.passes h.before)
+
+-- the same over a range
+pub lowest_in_range : (t : ℕ → Bool) (m n : ℕ) (r : Option ℕ) → m ≡ n →
+    MatchOption r ((k : ℕ) → 0 ≤ k → k < m → t k ≡ false) (λ i. (0 ≤ i) × (i < m) × (t i ≡ true) × ((k : ℕ) → 0 ≤ k → k < i → t k ≡ false)) → r ≡ lowest t n
+lowest_in_range t m n None e h = lowest_is t n None (λ k l. h k (omega arith) (omega arith))
+lowest_in_range t m n (Some i) e h = lowest_is t n (Some i) (record { within = omega (arith, h.1); passes = h.2; before = λ k l. h.3 k (omega arith) l })
+
+-- the same over the pairs of two lists
+pub lowest_in_pairs : (p : ℕ × ℕ → Bool) (t : ℕ → Bool) (xs ys : List ℕ) (r : Option ℕ) → length ys ≡ length xs → (d : ℕ × ℕ) →
+    ((k : ℕ) → k < length xs → p (get_or xs k d.0, get_or ys k d.1) ≡ t k) →
+    MatchOption r (AllWithin (λ x. p x ≡ false) (zip xs ys) 0 (length (zip xs ys)))
+    (λ i. (i < length (zip xs ys)) × HoldsAt (λ x. p x ≡ true) (zip xs ys) i × AllWithin (λ x. p x ≡ false) (zip xs ys) 0 i) →
+    r ≡ lowest t (length xs)
+lowest_in_pairs p t xs ys r e d same h = go r h
+  where
+    n : length (zip xs ys) ≡ length xs
+    n = omega (arith, length-zip xs ys)
+
+    at : (k : ℕ) → k < length xs → p (get_or (zip xs ys) k d) ≡ t k
+    at k l = ap p (get_or-zip xs ys k d l (omega arith)) ∙ same k l
+
+    go : (r : Option ℕ) → MatchOption r (AllWithin (λ x. p x ≡ false) (zip xs ys) 0 (length (zip xs ys)))
+        (λ i. (i < length (zip xs ys)) × HoldsAt (λ x. p x ≡ true) (zip xs ys) i × AllWithin (λ x. p x ≡ false) (zip xs ys) 0 i) →
+        r ≡ lowest t (length xs)
+    go None h = lowest_is t (length xs) None (λ k l. sym (at k l) ∙ h k d (omega arith) (omega (arith, n)))
+    go (Some i) h =
+        let w : i < length xs = omega (arith, h.0, n) in
+        lowest_is t (length xs) (Some i) (record {
+          within = w;
+          passes = sym (at i w) ∙ h.1 d;
+          before = λ k l. sym (at k (omega arith)) ∙ h.2 k d (omega arith) l;
+        })

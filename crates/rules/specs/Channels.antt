@@ -1,5 +1,5 @@
 -- Sets of channels as numbers.
-use Rattle.std.specs.Prelude.{◌≡◌, ℕ, ◌/◌, ◌%◌, ◌^◌, Bool, ◌==◌}
+use Rattle.std.specs.Prelude.{◌≡◌, ℕ, ◌/◌, ◌%◌, ◌^◌, Bool, ◌&&◌, ◌==◌, nat_lt}
 
 -- Bit c of the set, from the lowest: whether it has the channel c; and the same as a fact.
 abbrev pub has : ℕ → ℕ → Bool
@@ -7,3 +7,7 @@ has set c = (set / 2 ^ c % 2) == 1
 
 abbrev pub Has : ℕ → ℕ → Type 0
 Has set c = set / 2 ^ c % 2 ≡ 1
+
+-- whether a set has a channel; none above 63 is in any
+abbrev pub channel_in : ℕ → ℕ → Bool
+channel_in set c = nat_lt c 64 && has set c

@@ -1,6 +1,6 @@
 -- What a check of a plan answers. Assumes nothing.
-use Rattle.std.specs.Prelude.{◌≡◌, ℕ, zero, suc, ◌<◌, ◌≤◌, Bool, false, cond, not, ◌&&◌, List, length, Some, None, Option, Result, MatchResult, ◌==◌, nat_le, nat_lt, slice_index, slice_index_or}
-use Rattle.rules.specs.Channels.{has}
+use Rattle.std.specs.Prelude.{◌≡◌, ℕ, zero, suc, ◌<◌, ◌≤◌, Bool, false, cond, not, ◌&&◌, List, length, Some, None, Option, Result, MatchResult, ◌==◌, nat_le, slice_index, slice_index_or}
+use Rattle.rules.specs.Channels.{channel_in}
 use Rattle.rules.specs.Meanings.{Meaning, Lawful}
 use Rattle.rules.specs.Plans.{Listed, Complete, BreaksAt, Plan}
 use Rattle.rules.specs.declared.refusal.Refusal.{Refusal}
@@ -25,10 +25,6 @@ placed_at f (Some k) = Some (f k)
 abbrev pub counts_fit : List ℕ → Meaning → List ℕ → Bool
 counts_fit lists book x =
     nat_le 1 (length lists) && (nat_le (length lists) 200 && (book.groups == length lists && (nat_le book.count 4096 && length x == length lists)))
-
--- whether a set has a channel; none above 63 is in any
-abbrev pub channel_in : ℕ → ℕ → Bool
-channel_in set c = nat_lt c 64 && has set c
 
 -- whether the channel of group g is missing in its list
 abbrev pub unlisted : List ℕ → List ℕ → ℕ → Bool

@@ -1,5 +1,5 @@
 -- The number and the place that each refusal is told by.
-use Rattle.std.specs.Prelude.{ℕ}
+use Rattle.std.specs.Prelude.{◌≡◌, ℕ}
 use Rattle.rules.specs.declared.refusal.Refusal.{Refusal}
 use Rattle.rules.specs.declared.refusal.Refusal.TheVariants.{InputEnds, UnknownKind, EmptyList, NoSuchGroup, EqualGroups, WrongCounts, BytesAfterEnd, NoPlace, Counts, RegionTooShort, Allowance, TooManyMoves, BranchDisturbed, NothingClosed, BaseFull, BaseDisturbed, NotListed, RuleBroken, LineFull, BranchFull}
 
@@ -30,3 +30,7 @@ numbered r = (told r).0
 
 abbrev pub placed : Refusal → ℕ
 placed r = (told r).1
+
+-- the number and the place tell two refusals apart
+abbrev pub ToldApart : Type 0
+ToldApart = (a b : Refusal) → told a ≡ told b → a ≡ b

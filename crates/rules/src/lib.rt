@@ -2,6 +2,7 @@
 #![tactic(auto)]
 
 pub mod book;
+pub mod channels;
 pub mod check;
 pub mod gap;
 pub mod joined;

@@ -1,9 +1,9 @@
 // Why a call is refused: one enum for all calls, each case with its number and its place.
-ghost use Rattle.std.specs.Prelude.{◌≡◌, ◌&&◌, ◌==◌};
+ghost use Rattle.std.specs.Prelude.{◌≡◌};
 ghost use Rattle.rules.specs.Refusals.{numbered, placed};
-ghost use Rattle.std.specs.Cmp.{and_equiv, nat_eq_equiv, on_equiv, partial_equiv_from_equiv};
 
-#[derive(Clone, Copy)]
+// Two are the same where their numbers and their places are (`refusals_are_told_apart` says so).
+#[derive(Clone, Copy, PartialEq, Eq, Debug)]
 pub enum Refusal {
     // The input ends in a body, or before an end record.
     InputEnds(usize),
@@ -94,19 +94,4 @@ impl Refusal {
             _ => 0,
         }
     }
-}
-
-// Two refusals are the same where their numbers and their places are.
-impl PartialEq for Refusal {
-    ghost eq = { λ a b. (numbered a == numbered b && placed a == placed b) };
-
-    ghost laws = { partial_equiv_from_equiv (and_equiv (on_equiv numbered nat_eq_equiv) (on_equiv placed nat_eq_equiv)) };
-
-    fn eq(&self, other: &Refusal) -> bool {
-        self.number() == other.number() && self.place() == other.place()
-    }
-}
-
-impl Eq for Refusal {
-    ghost laws = { and_equiv (on_equiv numbered nat_eq_equiv) (on_equiv placed nat_eq_equiv) };
 }
