@@ -57,20 +57,14 @@ impl Order for FewestFirst {
         ensures after { ◌≡◌ {A = Unit {0}} tt tt }
         ensures least { FewestAnswer domains.now result }
     {
-        let mut best: Option<u16> = None;
-        for i in 0..domains.len() {
-            let n = domains[i].count_ones();
-            if n >= 2 {
-                let wins = match best {
-                    None => true,
-                    Some(b) => n < domains[b as usize].count_ones(),
-                };
-                if wins {
-                    best = Some(i as u16);
-                }
+        let mut best: Option<(u16, u32)> = None;
+        for (g, d) in domains.iter().enumerate() {
+            let n = d.count_ones();
+            if n >= 2 && best.is_none_or(|(_, least)| n < least) {
+                best = Some((g as u16, n));
             }
         }
-        best
+        best.map(|(g, _)| g)
     }
 
     fn channel(&mut self, domains: &[u64], group: u16) -> Option<u8> {
