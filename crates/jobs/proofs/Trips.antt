@@ -1,9 +1,10 @@
 -- What was written is read back.
-use Rattle.std.proofs.Common.{◌≡◌, ℕ, suc, ◌+◌, ◌-◌, ◌<◌, ◌≤◌, true, false, cond, eqb, List, [], ◌∷◌, ◌++◌, length, get_or, take, drop, Some, None, Option, sym, refl, ap, ◌∙◌, subst, ⊎_elim, append_assoc, add-zero, arith, lit≤, length-append, length-drop, length-take}
+use Rattle.std.proofs.Common.{◌≡◌, ℕ, suc, ◌+◌, ◌-◌, ◌<◌, ◌≤◌, true, false, cond, eqb, List, [], ◌∷◌, ◌++◌, length, get_or, take, drop, Some, None, Option, sym, refl, ap, ◌∙◌, subst, append_assoc, add-zero, arith, lit≤, length-append, length-drop, length-take}
 use Rattle.std.specs.List.{count_by}
 use Rattle.std.proofs.lemmas.List.Sums.{sum_by-append}
 use Rattle.std.proofs.lemmas.List.{get_or-drop, drop-drop, take_at, drop_at, append-nil, length_push, take_more}
-use Rattle.std.proofs.lemmas.Bool.{cond-true, cond-false, and_from, eq-eqb, lt-ltb, le-ltb, true≢false, cases_lt}
+use Rattle.std.proofs.lemmas.Bool.{cond-true, cond-false, and_from, eq-eqb, lt-ltb, le-ltb, true≢false}
+use Rattle.std.specs.Option.{option_or}
 use Rattle.jobs.specs.declared.fault.RecordFault.{RecordFault}
 use Rattle.jobs.specs.declared.item.Item.{Item}
 use Rattle.jobs.specs.declared.item.Item.TheVariants.{Counts, Channels, Near, Rows}
@@ -11,10 +12,10 @@ use Rattle.jobs.specs.declared.judge.Room.{Room}
 use Rattle.jobs.specs.declared.judge.Seen.{Seen}
 use Rattle.jobs.specs.Records.{kind, unread, part}
 use Rattle.jobs.specs.Items.{item, counts, channels, near, rows}
-use Rattle.jobs.specs.Judged.{wrong, fault, onward, or_else, Few}
+use Rattle.jobs.specs.Judged.{wrong, fault, onward, Few}
 use Rattle.jobs.specs.Jobs.{State, start, grown, after, tally, ending, held, filled, room, Sound}
 use Rattle.jobs.proofs.Wholes.{whole}
-use Rattle.jobs.proofs.Steps.{few_more}
+use Rattle.jobs.proofs.Steps.{below_suc, few_more}
 use Rattle.jobs.specs.Writes.{bytes, written, all_written, Writable, moved, told_all, job, Fitting, none, more, is_group, is_rule, RoundTrip}
 use Rattle.jobs.proofs.Digits.{two_back, two_back_2, eight_back}
 
@@ -123,11 +124,8 @@ onward_some s (Channels l) e = let p = length_push s.lists l in cc
 onward_some s (Near y) e = let p = length_push s.gaps y in cc
 onward_some s (Rows y) e = let p = length_push s.tables y in cc
 
-below_suc : (P : ℕ → Type 0) (i : ℕ) → ((j : ℕ) → j < i → P j) → P i → (j : ℕ) → j < suc i → P j
-below_suc P i f h j l = ⊎_elim (λ e. f j e) (λ e. let q : i ≡ j = omega arith in subst P q h) (cases_lt j i)
-
-no_fault : (a b : Option RecordFault) → a ≡ None → b ≡ None → or_else a b ≡ None
-no_fault a b p q = ap (λ o. or_else o b) p ∙ q
+no_fault : (a b : Option RecordFault) → a ≡ None → b ≡ None → option_or a b ≡ None
+no_fault a b p q = ap (λ o. option_or o b) p ∙ q
 
 pub record Walked (src : List ℕ) (m : Room) (bs tail : List ℕ) (s : State) (n : ℕ) : Type 0 where
   pub state : after bs n ≡ s
