@@ -1,6 +1,5 @@
 -- Numbers in bytes and back.
-use Rattle.std.proofs.Common.{◌≡◌, ℕ, ◌+◌, ◌*◌, ◌/◌, ◌%◌, ◌^◌, ◌<◌, List, [], ◌∷◌, ◌++◌, ap, ◌∙◌, append_assoc, arith}
-use native.Mathlib.Nat.{div-div-eq-div-mul}
+use Rattle.std.proofs.Common.{◌≡◌, ℕ, ◌+◌, ◌*◌, ◌/◌, ◌%◌, ◌^◌, ◌<◌, List, ◌++◌, ap, ◌∙◌, append_assoc, arith}
 use Rattle.rules.specs.Tables.{number}
 use Rattle.jobs.specs.Writes.{bytes}
 
@@ -22,16 +21,10 @@ eight_back v t h =
     top : (v : ℕ) → v < 2 ^ 64 → 0 * 256 + v / 256 / 256 / 256 / 256 / 256 / 256 / 256 % 256 ≡ v / 256 / 256 / 256 / 256 / 256 / 256 / 256
     top v h = omega arith
 
-pub eight_list : (v : ℕ) → (v / 72057594037927936 % 256) ∷ (v / 281474976710656 % 256) ∷ (v / 1099511627776 % 256) ∷ (v / 4294967296 % 256) ∷ (v / 16777216 % 256) ∷ (v / 65536 % 256) ∷ (v / 256 % 256) ∷ (v % 256) ∷ [] ≡ bytes 8 v
-eight_list v = simp div-div-eq-div-mul
-
 -- parts that are added one after another
 module _ {X : Type 0} where
-  pub chain_2 : (u a b v w : List X) → v ≡ u ++ a → w ≡ v ++ b → w ≡ u ++ (a ++ b)
+  chain_2 : (u a b v w : List X) → v ≡ u ++ a → w ≡ v ++ b → w ≡ u ++ (a ++ b)
   chain_2 u a b v w p q = q ∙ (ap (λ t. t ++ b) p ∙ append_assoc u a b)
 
   pub chain_3 : (u a b c v w x : List X) → v ≡ u ++ a → w ≡ v ++ b → x ≡ w ++ c → x ≡ u ++ (a ++ (b ++ c))
   chain_3 u a b c v w x p q r = chain_2 u a (b ++ c) v x p (chain_2 v b c w x q r)
-
-  pub chain_4 : (u a b c d v w x y : List X) → v ≡ u ++ a → w ≡ v ++ b → x ≡ w ++ c → y ≡ x ++ d → y ≡ u ++ (a ++ (b ++ (c ++ d)))
-  chain_4 u a b c d v w x y p q r s = chain_2 u a (b ++ (c ++ d)) v y p (chain_3 v b c d w x y q r s)

@@ -1,7 +1,10 @@
 -- What was written is read back.
-use Rattle.std.proofs.Common.{◌≡◌, ℕ, suc, ◌+◌, ◌-◌, ◌<◌, ◌≤◌, true, false, cond, eqb, List, [], ◌∷◌, ◌++◌, length, get_or, take, drop, Some, None, Option, sym, refl, ap, ◌∙◌, subst, ⊎_elim, append_assoc, add-zero, arith, lit≤, length-append, length-drop, length-take}
-use Rattle.std.proofs.lemmas.List.{get_or-drop, drop-drop, take_at, drop_at, append-nil, length_push}
-use Rattle.std.proofs.lemmas.Bool.{cond-true, cond-false, and_from, eq-eqb, lt-ltb, le-ltb, true≢false, cases_lt}
+use Rattle.std.proofs.Common.{◌≡◌, ℕ, suc, ◌+◌, ◌-◌, ◌<◌, ◌≤◌, true, false, cond, eqb, List, [], ◌∷◌, ◌++◌, length, get_or, take, drop, Some, None, Option, sym, refl, ap, ◌∙◌, subst, append_assoc, add-zero, arith, lit≤, length-append, length-drop, length-take}
+use Rattle.std.specs.List.{count_by}
+use Rattle.std.proofs.lemmas.List.Sums.{sum_by-append}
+use Rattle.std.proofs.lemmas.List.{get_or-drop, drop-drop, take_at, drop_at, append-nil, length_push, take_more}
+use Rattle.std.proofs.lemmas.Bool.{cond-true, cond-false, and_from, eq-eqb, lt-ltb, le-ltb, true≢false}
+use Rattle.std.specs.Option.{option_or}
 use Rattle.jobs.specs.declared.fault.RecordFault.{RecordFault}
 use Rattle.jobs.specs.declared.item.Item.{Item}
 use Rattle.jobs.specs.declared.item.Item.TheVariants.{Counts, Channels, Near, Rows}
@@ -9,11 +12,11 @@ use Rattle.jobs.specs.declared.judge.Room.{Room}
 use Rattle.jobs.specs.declared.judge.Seen.{Seen}
 use Rattle.jobs.specs.Records.{kind, unread, part}
 use Rattle.jobs.specs.Items.{item, counts, channels, near, rows}
-use Rattle.jobs.specs.Judged.{wrong, fault, onward, or_else, Few}
+use Rattle.jobs.specs.Judged.{wrong, fault, onward, Few}
 use Rattle.jobs.specs.Jobs.{State, start, grown, after, tally, ending, held, filled, room, Sound}
 use Rattle.jobs.proofs.Wholes.{whole}
-use Rattle.jobs.proofs.Steps.{few_more}
-use Rattle.jobs.specs.Writes.{bytes, written, all_written, Writable, moved, told_all, job, Fitting, none, more, one_group, one_rule, RoundTrip}
+use Rattle.jobs.proofs.Steps.{below_suc, few_more}
+use Rattle.jobs.specs.Writes.{bytes, written, all_written, Writable, moved, told_all, job, Fitting, none, more, is_group, is_rule, RoundTrip}
 use Rattle.jobs.proofs.Digits.{two_back, two_back_2, eight_back}
 
 pub record Front (bs : List ℕ) (p k : ℕ) (b r : List ℕ) (n : ℕ) : Type 0 where
@@ -121,11 +124,8 @@ onward_some s (Channels l) e = let p = length_push s.lists l in cc
 onward_some s (Near y) e = let p = length_push s.gaps y in cc
 onward_some s (Rows y) e = let p = length_push s.tables y in cc
 
-below_suc : (P : ℕ → Type 0) (i : ℕ) → ((j : ℕ) → j < i → P j) → P i → (j : ℕ) → j < suc i → P j
-below_suc P i f h j l = ⊎_elim (λ e. f j e) (λ e. let q : i ≡ j = omega arith in subst P q h) (cases_lt j i)
-
-no_fault : (a b : Option RecordFault) → a ≡ None → b ≡ None → or_else a b ≡ None
-no_fault a b p q = ap (λ o. or_else o b) p ∙ q
+no_fault : (a b : Option RecordFault) → a ≡ None → b ≡ None → option_or a b ≡ None
+no_fault a b p q = ap (λ o. option_or o b) p ∙ q
 
 pub record Walked (src : List ℕ) (m : Room) (bs tail : List ℕ) (s : State) (n : ℕ) : Type 0 where
   pub state : after bs n ≡ s
@@ -186,54 +186,41 @@ pub written_push : (src : List ℕ) (xs : List Item) (x : Item) → all_written 
 written_push src [] x = append-nil (written src x)
 written_push src (y ∷ xs) x = ap (λ t. written src y ++ t) (written_push src xs x) ∙ sym (append_assoc (written src y) (all_written src xs) (written src x))
 
-pub told_push : (s : State) (xs : List Item) (x : Item) → told_all s (xs ++ (x ∷ [])) ≡ grown (told_all s xs) (moved (told_all s xs).at x)
-told_push s [] x = refl
-told_push s (y ∷ xs) x = told_push (grown s (moved s.at y)) xs x
-
-grown_groups : (s : State) (p : ℕ) (x : Item) → length (grown s (moved p x)).lists ≡ length s.lists + one_group x
+grown_groups : (s : State) (p : ℕ) (x : Item) → length (grown s (moved p x)).lists ≡ length s.lists + cond (is_group x) 1 0
 grown_groups s p (Counts g r) = omega arith
 grown_groups s p (Channels l) = length_push s.lists l
 grown_groups s p (Near e) = omega arith
 grown_groups s p (Rows e) = omega arith
 
-grown_rules : (s : State) (p : ℕ) (x : Item) → length (grown s (moved p x)).gaps + length (grown s (moved p x)).tables ≡ length s.gaps + length s.tables + one_rule x
+grown_rules : (s : State) (p : ℕ) (x : Item) → length (grown s (moved p x)).gaps + length (grown s (moved p x)).tables ≡ length s.gaps + length s.tables + cond (is_rule x) 1 0
 grown_rules s p (Counts g r) = omega arith
 grown_rules s p (Channels l) = omega arith
 grown_rules s p (Near e) = omega (arith, length_push s.gaps e)
 grown_rules s p (Rows e) = omega (arith, length_push s.tables (record { first = e.first; second = e.second; offset = p + 5 }))
 
--- what the loop holds after the items xs
-pub record Counted (src u v : List ℕ) (xs : List Item) (g r : ℕ) : Type 0 where
-  pub out : v ≡ u ++ all_written src xs
-  pub groups : g ≡ length (told_all start xs).lists
-  pub rules : r ≡ length (told_all start xs).gaps + length (told_all start xs).tables
+-- an end counts the groups and the rules
+told_groups : (xs : List Item) (s : State) → length (told_all s xs).lists ≡ length s.lists + count_by is_group xs
+told_groups [] s = omega arith
+told_groups (x ∷ xs) s =
+    omega (arith, sum_by-append (λ (y : Item). cond (is_group y) 1 0) (x ∷ []) xs, told_groups xs (grown s (moved s.at x)), grown_groups s s.at x)
 
-pub counted_none : (src u : List ℕ) → Counted src u u [] 0 0
-counted_none src u = record { out = sym (append-nil u); groups = refl; rules = refl }
+told_rules : (xs : List Item) (s : State) → length (told_all s xs).gaps + length (told_all s xs).tables ≡ length s.gaps + length s.tables + count_by is_rule xs
+told_rules [] s = omega arith
+told_rules (x ∷ xs) s =
+    omega (arith, sum_by-append (λ (y : Item). cond (is_rule y) 1 0) (x ∷ []) xs, told_rules xs (grown s (moved s.at x)), grown_rules s s.at x)
 
-pub counted_push : (src u v w : List ℕ) (xs : List Item) (x : Item) (g r g' r' : ℕ) → Counted src u v xs g r → w ≡ v ++ written src x →
-    g' ≡ g + one_group x → r' ≡ r + one_rule x → Counted src u w (xs ++ (x ∷ [])) g' r'
-counted_push src u v w xs x g r g' r' c e p q = record {
-  out = e ∙ (ap (λ t. t ++ written src x) c.out ∙ (append_assoc u (all_written src xs) (written src x) ∙ ap (λ t. u ++ t) (sym (written_push src xs x))));
-  groups = p ∙ (ap (λ n. n + one_group x) c.groups ∙ (sym (grown_groups (told_all start xs) (told_all start xs).at x) ∙ ap (λ (s : State). length s.lists) (sym (told_push start xs x))));
-  rules = q ∙ (ap (λ n. n + one_rule x) c.rules ∙ (sym (grown_rules (told_all start xs) (told_all start xs).at x) ∙ ap (λ (s : State). length s.gaps + length s.tables) (sym (told_push start xs x))));
-}
+pub job_is : (src : List ℕ) (xs : List Item) (u v w : List ℕ) → v ≡ u ++ all_written src xs →
+    w ≡ v ++ written src (Counts (count_by is_group xs) (count_by is_rule xs)) → w ≡ u ++ job src xs
+job_is src xs u v w p q =
+    let g : count_by is_group xs ≡ length (told_all start xs).lists = omega (arith, told_groups xs start) in
+    let r : count_by is_rule xs ≡ length (told_all start xs).gaps + length (told_all start xs).tables = omega (arith, told_rules xs start) in
+    q ∙ (ap (λ t. t ++ written src (Counts (count_by is_group xs) (count_by is_rule xs))) p
+    ∙ (append_assoc u (all_written src xs) _ ∙ pair_is (λ m n. u ++ (all_written src xs ++ written src (Counts m n))) _ _ _ _ g r))
 
--- no more groups and rules than items
-told_few : (xs : List Item) (s : State) → length (told_all s xs).lists + (length (told_all s xs).gaps + length (told_all s xs).tables) ≤ length s.lists + (length s.gaps + length s.tables) + length xs
-told_few [] s = omega arith
-told_few (x ∷ xs) s =
-    let h = told_few xs (grown s (moved s.at x)) in
-    let a = grown_groups s s.at x in
-    let b = grown_rules s s.at x in
-    let c : one_group x + one_rule x ≤ 1 = one_each x in
-    omega arith
-  where
-    one_each : (x : Item) → one_group x + one_rule x ≤ 1
-    one_each (Counts g r) = lit≤ tt
-    one_each (Channels l) = lit≤ tt
-    one_each (Near e) = lit≤ tt
-    one_each (Rows e) = lit≤ tt
-
-pub told_below : (xs : List Item) → length (told_all start xs).lists + (length (told_all start xs).gaps + length (told_all start xs).tables) ≤ length xs
-told_below xs = omega (arith, told_few xs start)
+-- the records of one item more
+pub written_more : (src u v w : List ℕ) (xs : List Item) (k : ℕ) (d : Item) → k < length xs → v ≡ u ++ all_written src (take k xs) →
+    w ≡ v ++ written src (get_or xs k d) → w ≡ u ++ all_written src (take (k + 1) xs)
+written_more src u v w xs k d l p q =
+    q ∙ (ap (λ t. t ++ written src (get_or xs k d)) p
+    ∙ (append_assoc u (all_written src (take k xs)) (written src (get_or xs k d))
+    ∙ ap (λ t. u ++ t) (sym (written_push src (take k xs) (get_or xs k d)) ∙ ap (all_written src) (sym (take_more xs k d l)))))

@@ -1,5 +1,5 @@
 -- The bytes that records are written as. Assumes nothing.
-use Rattle.std.specs.Prelude.{◌≡◌, ℕ, zero, suc, ◌+◌, ◌/◌, ◌%◌, ◌^◌, ◌<◌, ◌≤◌, false, cond, List, [], ◌∷◌, ◌++◌, length, take, drop, Some, None, Option, nat_le, slice_index_or}
+use Rattle.std.specs.Prelude.{◌≡◌, ℕ, zero, suc, ◌+◌, ◌/◌, ◌%◌, ◌^◌, ◌<◌, ◌≤◌, Bool, true, false, cond, List, [], ◌∷◌, ◌++◌, length, take, drop, Some, None, Option, nat_le, slice_index_or}
 use Rattle.jobs.specs.declared.item.Item.{Item}
 use Rattle.jobs.specs.declared.item.Item.TheVariants.{Counts, Channels, Near, Rows}
 use Rattle.jobs.specs.declared.judge.Room.{Room}
@@ -80,18 +80,18 @@ abbrev pub told_all : State → List Item → State
 told_all s [] = s
 told_all s (x ∷ xs) = told_all (grown s (moved s.at x)) xs
 
--- how many groups and rules an item is
-abbrev pub one_group : Item → ℕ
-one_group (Counts g r) = 0
-one_group (Channels l) = 1
-one_group (Near e) = 0
-one_group (Rows e) = 0
+-- whether an item is a group, or a rule
+abbrev pub is_group : Item → Bool
+is_group (Counts g r) = false
+is_group (Channels l) = true
+is_group (Near e) = false
+is_group (Rows e) = false
 
-abbrev pub one_rule : Item → ℕ
-one_rule (Counts g r) = 0
-one_rule (Channels l) = 0
-one_rule (Near e) = 1
-one_rule (Rows e) = 1
+abbrev pub is_rule : Item → Bool
+is_rule (Counts g r) = false
+is_rule (Channels l) = false
+is_rule (Near e) = true
+is_rule (Rows e) = true
 
 -- the job of some groups and rules: their records and an end
 abbrev pub job : List ℕ → List Item → List ℕ

@@ -14,12 +14,8 @@ use rules::table::{TableBook, TableEntry};
 fn front<'a, T: Copy>(entries: &'a [T], n: u16) -> &'a [T]
     ensures { result.now ≡ take n entries.now }
 {
-    let size = n as usize;
-    if size < entries.len() {
-        &entries[0..size]
-    } else {
-        entries
-    }
+    let size = entries.len().min(n as usize);
+    &entries[..size]
 }
 
 // The gaps that a load filled, joined with the tables. Where fewer places are lent than the load
@@ -37,17 +33,15 @@ pub fn book<'j, 'g, 't>(
     ensures stands { joined (gaps_of result.first.groups result.first.entries.now) (tables_of result.second.groups result.second.job.now result.second.entries.now) ≡ book_at job.now n gaps.now tables.now }
     ensures loaded { LoadedBook }
 {
-    let near = front(gaps, n.gaps);
-    let far = front(tables, n.tables);
     Joined {
         first: GapBook {
             groups: n.groups,
-            entries: near,
+            entries: front(gaps, n.gaps),
         },
         second: TableBook {
             groups: n.groups,
             job,
-            entries: far,
+            entries: front(tables, n.tables),
         },
     }
 }

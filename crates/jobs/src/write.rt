@@ -1,9 +1,10 @@
 // Writes the records of a job.
-ghost use Rattle.std.specs.Prelude.{◌≡◌, ◌+◌, ◌≤◌, [], ◌∷◌, ◌++◌, length, IfOk, Some, None, MatchResult, OnOk};
-ghost use Rattle.jobs.specs.Jobs.{start};
-ghost use Rattle.jobs.specs.Writes.{RowsIn, flaw, Flawless, Unwritten, bytes, written, all_written, told_all, one_group, one_rule, job, RoundTrip};
+ghost use Rattle.std.specs.Prelude.{◌≡◌, ◌++◌, count_by, Some, None, MatchResult, OnOk};
+ghost use Rattle.jobs.specs.declared.write.WriteFault.TheVariants.{NoMemory};
+ghost use Rattle.jobs.specs.Writes.{RowsIn, flaw, Flawless, Unwritten, bytes, written, all_written, is_group, is_rule, job, RoundTrip};
 
 use super::item::Item;
+use super::record::Kind;
 use std::alloc::{AllocError, Global};
 
 // Why no job is written.
@@ -19,32 +20,20 @@ pub enum WriteFault {
     NoMemory,
 }
 
-fn add_byte(out: &mut Vec<u8>, b: u8) -> Result<(), AllocError>
-    ensures { OnOk result (out.new.items ≡ out.old.items ++ (b ∷ [])) }
-{
-    out.push(b)?;
-    Ok(())
+impl From<AllocError> for WriteFault {
+    ghost from_gives = { λ _ f. f ≡ NoMemory };
+
+    fn from(_e: AllocError) -> WriteFault {
+        WriteFault::NoMemory
+    }
 }
 
-fn add_part(out: &mut Vec<u8>, part: &[u8]) -> Result<(), AllocError>
-    ensures { OnOk result (out.new.items ≡ out.old.items ++ part.now) }
+// Adds two numbers, each with the high byte first.
+fn write_pair(out: &mut Vec<u8>, first: u16, second: u16) -> Result<(), AllocError>
+    ensures { OnOk result (out.new.items ≡ out.old.items ++ (bytes 2 first ++ bytes 2 second)) }
 {
-    out.extend_from_slice(part)?;
-    Ok(())
-}
-
-fn add_half_word(out: &mut Vec<u8>, v: u16) -> Result<(), AllocError>
-    ensures { OnOk result (out.new.items ≡ out.old.items ++ bytes 2 v) }
-{
-    let high_first = v.to_be_bytes();
-    add_part(out, &high_first)
-}
-
-fn add_word(out: &mut Vec<u8>, v: u64) -> Result<(), AllocError>
-    ensures { OnOk result (out.new.items ≡ out.old.items ++ bytes 8 v) }
-{
-    add_part(out, &v.to_be_bytes())?;
-    Ok(())
+    out.extend_from_slice(&first.to_be_bytes())?;
+    out.extend_from_slice(&second.to_be_bytes())
 }
 
 // Adds one record. The rows of a table are those at its offset in `src`.
@@ -54,77 +43,58 @@ fn write_item(out: &mut Vec<u8>, src: &[u8], item: Item) -> Result<(), AllocErro
 {
     match item {
         Item::Counts(groups, rules) => {
-            add_byte(out, 0)?;
-            add_half_word(out, groups)?;
-            add_half_word(out, rules)?;
-            Ok(())
+            out.push(Kind::End as u8)?;
+            write_pair(out, groups, rules)
         }
         Item::Channels(list) => {
-            add_byte(out, 1)?;
-            add_word(out, list)?;
-            Ok(())
+            out.push(Kind::Group as u8)?;
+            out.extend_from_slice(&list.to_be_bytes())
         }
         Item::Near(e) => {
-            add_byte(out, 2)?;
-            add_half_word(out, e.first)?;
-            add_half_word(out, e.second)?;
-            add_byte(out, e.gap)?;
+            out.push(Kind::Gap as u8)?;
+            write_pair(out, e.first, e.second)?;
+            out.push(e.gap)?;
             Ok(())
         }
         Item::Rows(e) => {
             let from = e.offset as usize;
-            add_byte(out, 3)?;
-            add_half_word(out, e.first)?;
-            add_half_word(out, e.second)?;
-            add_part(out, &src[from..from + 512])?;
+            out.push(Kind::Table as u8)?;
+            write_pair(out, e.first, e.second)?;
+            out.extend_from_slice(&src[from..from + 512])?;
             Ok(())
         }
     }
 }
 
-// What a job's end record has to say of the items before it.
-#[derive(Clone, Copy)]
-struct Tally {
-    groups: u16,
-    rules: u16,
-}
-
-// How many groups an item is.
-fn groups_of(x: Item) -> u16
-    ensures is { result ≡ one_group x }
-    ensures low { result ≤ 1 }
+// How many of the items are groups.
+fn count_groups(items: &[Item]) -> usize
+    ensures { result ≡ count_by is_group items.now }
 {
-    match x {
-        Item::Channels(_) => 1,
-        _ => 0,
-    }
+    items
+        .iter()
+        .filter(|x| matches!(x, Item::Channels(_)))
+        .count()
 }
 
-// How many rules an item is.
-fn rules_of(x: Item) -> u16
-    ensures is { result ≡ one_rule x }
-    ensures low { result ≤ 1 }
+// How many of the items are rules.
+fn count_rules(items: &[Item]) -> usize
+    ensures { result ≡ count_by is_rule items.now }
 {
-    match x {
-        Item::Near(_) => 1,
-        Item::Rows(_) => 1,
-        _ => 0,
-    }
+    items
+        .iter()
+        .filter(|x| matches!(x, Item::Near(_) | Item::Rows(_)))
+        .count()
 }
 
-// Adds the records of all items, and counts them.
-fn write_items(out: &mut Vec<u8>, src: &[u8], items: &[Item]) -> Result<Tally, AllocError>
+// Adds the records of all items.
+fn write_items(out: &mut Vec<u8>, src: &[u8], items: &[Item]) -> Result<(), AllocError>
     requires { Flawless src.now items.now }
-    ensures { IfOk result (λ n. (out.new.items ≡ out.old.items ++ all_written src.now items.now) × (n.groups ≡ length (told_all start items.now).lists) × (n.rules ≡ length (told_all start items.now).gaps + length (told_all start items.now).tables)) }
+    ensures { OnOk result (out.new.items ≡ out.old.items ++ all_written src.now items.now) }
 {
-    let mut groups: u16 = 0;
-    let mut rules: u16 = 0;
     for x in items {
         write_item(out, src, *x)?;
-        groups += groups_of(*x);
-        rules += rules_of(*x);
     }
-    Ok(Tally { groups, rules })
+    Ok(())
 }
 
 // Adds the records of all items, and the end.
@@ -132,9 +102,10 @@ fn add_job(out: &mut Vec<u8>, src: &[u8], items: &[Item]) -> Result<(), AllocErr
     requires { Flawless src.now items.now }
     ensures { OnOk result (out.new.items ≡ out.old.items ++ job src.now items.now) }
 {
-    let n = write_items(out, src, items)?;
-    write_item(out, src, Item::Counts(n.groups, n.rules))?;
-    Ok(())
+    write_items(out, src, items)?;
+    let groups = count_groups(items) as u16;
+    let rules = count_rules(items) as u16;
+    write_item(out, src, Item::Counts(groups, rules))
 }
 
 // Whether the item at place `at` can be written.
@@ -143,13 +114,7 @@ fn vet_item(src: &[u8], at: usize, item: Item) -> Result<(), WriteFault>
 {
     match item {
         Item::Counts(_, _) => Err(WriteFault::EndInside(at)),
-        Item::Rows(e) => {
-            if e.offset as usize + 512 <= src.len() {
-                Ok(())
-            } else {
-                Err(WriteFault::NoRows(at))
-            }
-        }
+        Item::Rows(e) if e.offset as usize + 512 > src.len() => Err(WriteFault::NoRows(at)),
         _ => Ok(()),
     }
 }
@@ -175,8 +140,6 @@ pub fn write_job(heap: Global, src: &[u8], items: &[Item]) -> Result<Vec<u8>, Wr
 {
     vet(src, items)?;
     let mut out = Vec::new(heap);
-    match add_job(&mut out, src, items) {
-        Ok(_) => Ok(out),
-        Err(_) => Err(WriteFault::NoMemory),
-    }
+    add_job(&mut out, src, items)?;
+    Ok(out)
 }
