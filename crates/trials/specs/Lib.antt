@@ -2,3 +2,4 @@ pub mod Alternating
 pub mod Highest
 pub mod Tops
 pub mod AlternatingLemmas
+pub mod Kept
