@@ -17,9 +17,6 @@ use Rattle.search.specs.declared.held.Sat.{Sat}
 use Rattle.search.specs.declared.held.Sat.TheVariants.{Plan as SatPlan, None as SatNone, Open as SatOpen}
 use Rattle.search.specs.Turns.{state_of}
 use Rattle.search.specs.Sittings.{Lent, Tells, ComesTo, Answers, Opened}
-use Rattle.rules.specs.Gaps.{gaps}
-use Rattle.rules.specs.Tables.{tables}
-use Rattle.rules.specs.Joins.{joined}
 use Rattle.rules.specs.declared.gap.GapEntry.{GapEntry}
 use Rattle.rules.specs.declared.table.TableEntry.{TableEntry}
 use Rattle.jobs.specs.declared.load.Loaded.{Loaded}
@@ -81,12 +78,8 @@ module _ (book : Meaning) (lists : List ℕ) (s : OpenSearch) (branch base : Lis
 
 -- The book of what was loaded.
 pub book_same : (bs : List ℕ) (s : Job) (n : Loaded) (gs : List GapEntry) (ts : List TableEntry) → n ≡ held s → gs ≡ s.gaps → ts ≡ s.tables → book_at bs n gs ts ≡ book_of bs s
-book_same bs s n gs ts e f h =
-    ap (λ (x : Loaded). book_at bs x gs ts) e ∙ ap (λ (x : List GapEntry). book_at bs (held s) x ts) f ∙ ap (λ (x : List TableEntry). book_at bs (held s) s.gaps x) h
-    ∙ ap (λ (x : List GapEntry). joined (gaps (length s.lists) x) (tables (length s.lists) bs (take (length s.tables) s.tables))) (take_all (length s.gaps) s.gaps (omega arith))
-    ∙ ap (λ (x : List TableEntry). joined (gaps (length s.lists) s.gaps) (tables (length s.lists) bs x)) (take_all (length s.tables) s.tables (omega arith))
+book_same bs s n gs ts e f h = rw (e, f, h, take_all (length s.gaps) s.gaps (omega arith), take_all (length s.tables) s.tables (omega arith)) refl
 
 -- What came, told of the job's own lists and book.
 pub came_same : (m m' : Meaning) (ls ls' : List ℕ) (v v' : Reached) (c c' : Counts) → m ≡ m' → ls ≡ ls' → v ≡ v' → c ≡ c' → Came m ls v c → Came m' ls' v' c'
-came_same m m' ls ls' v v' c c' e f h k x =
-    subst (λ (y : Counts). Came m' ls' v' y) k (subst (λ (y : Reached). Came m' ls' y c) h (subst (λ (y : List ℕ). Came m' y v c) f (subst (λ (y : Meaning). Came y ls v c) e x)))
+came_same m m' ls ls' v v' c c' e f h k x = rw (e, f, h, k) at x
