@@ -1,8 +1,9 @@
 -- A sitting's answer takes every run on.
-use Rattle.std.proofs.Common.{◌≡◌, ℕ, List, length, take, drop, Ok, vec_items, Vec, sym, ap, ◌∙◌, subst, arith}
+use Rattle.std.proofs.Common.{◌≡◌, ℕ, List, length, take, drop, Ok, Err, Result, IfOk, refl, vec_items, Vec, sym, ap, ◌∙◌, subst, arith}
 use Rattle.std.proofs.lemmas.List.{take_at, take_all}
 use Rattle.std.specs.Vec.{with_items}
 use Rattle.rules.specs.Meanings.{Meaning}
+use Rattle.rules.specs.declared.refusal.Refusal.{Refusal}
 use Rattle.branching.specs.Order.{OrderMeaning}
 use Rattle.branching.specs.Policy.{PolicyMeaning}
 use Rattle.model.specs.Moves.{State}
@@ -12,21 +13,16 @@ use Rattle.laws.specs.Law.{Law}
 use Rattle.search.specs.declared.held.Counts.{Counts}
 use Rattle.search.specs.declared.held.Progress.{Progress}
 use Rattle.search.specs.declared.held.OpenSearch.{OpenSearch}
-use Rattle.search.specs.declared.held.SettledSearch.{SettledSearch}
 use Rattle.search.specs.declared.held.Sat.{Sat}
 use Rattle.search.specs.declared.held.Sat.TheVariants.{Plan as SatPlan, None as SatNone, Open as SatOpen}
 use Rattle.search.specs.Turns.{state_of}
 use Rattle.search.specs.Sittings.{Lent, Tells, ComesTo, Answers, Opened}
-use Rattle.rules.specs.Gaps.{gaps}
-use Rattle.rules.specs.Tables.{tables}
-use Rattle.rules.specs.Joins.{joined}
 use Rattle.rules.specs.declared.gap.GapEntry.{GapEntry}
 use Rattle.rules.specs.declared.table.TableEntry.{TableEntry}
 use Rattle.jobs.specs.declared.load.Loaded.{Loaded}
 use Rattle.jobs.specs.Jobs.{State as Job, held}
 use Rattle.jobs.specs.Books.{book_at, book_of}
-use Rattle.planner.specs.declared.solve.Found.{Found}
-use Rattle.planner.specs.Answers.{Came, Stands, GoesOn, Comes, reached}
+use Rattle.planner.specs.Answers.{Came, Stands, GoesOn, Comes, reached, counted}
 
 -- The state that equal words stand for.
 same_state : (p : Progress) (a a' b b' : List ℕ) → a ≡ a' → b ≡ b' → state_of p a b ≡ state_of p a' b'
@@ -48,43 +44,42 @@ module _ {O P H Q : Type 0} (om : OrderMeaning H) (pm : PolicyMeaning Q) (oh : O
       let n = r.continues (passed run) in
       subst (λ (z : State). (run : Run lists book unsettled z) × Law lists book run) (sym r.state) (n.0, n.2)
 
-  -- The same by other names of what it left.
-  pub goes_to : (sat : Sat) (branch' base' bytes : List ℕ) → left.branch ≡ branch' → left.base ≡ base' → left.plan ≡ bytes
-      → Answers om pm oh ph book s lists allowance found left (Ok sat) → GoesOn book lists s branch base branch' base' bytes sat
-  goes_to sat branch' base' bytes e f h a =
+  -- The same by other names of what it left, if it was not refused.
+  pub goes_to : (r : Result Sat (Refusal × OpenSearch)) (branch' base' bytes : List ℕ) → left.branch ≡ branch' → left.base ≡ base' → left.plan ≡ bytes
+      → Answers om pm oh ph book s lists allowance found left r → IfOk r (GoesOn book lists s branch base branch' base' bytes)
+  goes_to (Ok sat) branch' base' bytes e f h a =
       subst (λ (x : List ℕ). GoesOn book lists s branch base branch' base' x sat) h
       (subst (λ (x : List ℕ). GoesOn book lists s branch base branch' x left.plan sat) f
       (subst (λ (x : List ℕ). GoesOn book lists s branch base x left.base left.plan sat) e (goes sat a)))
+  goes_to (Err _) branch' base' bytes e f h a = tt
 
 -- What a vector holds after its slice was lent on: the slice.
 pub lent_back : {X Z : Type 0} (v : Vec X Z) (ws : List X) → length ws ≡ length (vec_items v) → ws ≡ vec_items (with_items v ws)
 lent_back v ws e = sym (take_at ws (drop (length ws) v.items) v.len (e ∙ sym v.ok.0))
 
--- What a sitting came to, by its answer.
-module _ (book : Meaning) (lists : List ℕ) (s : OpenSearch) (branch base branch' base' bytes : List ℕ) (sat : Sat) (d : SettledSearch) (c : Counts) (counts : c ≡ d.counts) (goes_on : GoesOn book lists s branch base branch' base' bytes sat) where
-  pub came_plan : sat ≡ SatPlan d → Stands book lists s branch base → Came book lists (plan (take (length lists) bytes)) c
-  came_plan e run =
-      let f : GoesOn book lists s branch base branch' base' bytes (SatPlan d) = subst (λ (x : Sat). GoesOn book lists s branch base branch' base' bytes x) e goes_on in
-      subst (λ (n : Counts). Came book lists (plan (take (length lists) bytes)) n) (sym counts) (f run)
+module _ (book : Meaning) (lists : List ℕ) (s : OpenSearch) (branch base : List ℕ) where
+  -- A sitting on a search that earlier ones came to goes on with what these were given.
+  pub goes_after : (s' : OpenSearch) (branch' base' after_branch after_base bytes : List ℕ) (t : Sat)
+      → (Stands book lists s branch base → (run : Stands book lists s' branch' base') × Law lists book run)
+      → GoesOn book lists s' branch' base' after_branch after_base bytes t → GoesOn book lists s branch base after_branch after_base bytes t
+  goes_after s' branch' base' after_branch after_base bytes (SatPlan d) before on = λ run. on (before run).0
+  goes_after s' branch' base' after_branch after_base bytes (SatNone d) before on = λ run. on (before run).0
+  goes_after s' branch' base' after_branch after_base bytes (SatOpen t) before on = λ run. on (before run).0
 
-  pub came_none : sat ≡ SatNone d → Stands book lists s branch base → Came book lists none c
-  came_none e run =
-      let f : GoesOn book lists s branch base branch' base' bytes (SatNone d) = subst (λ (x : Sat). GoesOn book lists s branch base branch' base' bytes x) e goes_on in
-      subst (λ (n : Counts). Came book lists none n) (sym counts) (f run)
+  -- What goes on has come to its verdict and counts.
+  pub comes : (branch' base' bytes : List ℕ) (t : Sat) → GoesOn book lists s branch base branch' base' bytes t → Comes book lists s branch base bytes t
+  comes branch' base' bytes (SatPlan d) on = on
+  comes branch' base' bytes (SatNone d) on = on
+  comes branch' base' bytes (SatOpen t) on = λ run. (let r = on run in (state_of t.at branch' base', r.0, r.1, record { moves = refl; closings = refl; restarts = refl }))
 
--- From the opening on, the sittings made a run.
-pub came_home : (book : Meaning) (lists : List ℕ) (s : OpenSearch) (branch base bytes : List ℕ) (f : Found × Counts) → Opened book lists s → Comes book lists s branch base bytes f
-    → Came book lists (reached (take (length lists) bytes) f.0) f.1
-came_home book lists s branch base bytes f o comes = comes (subst (λ (x : State). Run lists book unsettled x) (sym (o.state branch base)) o.begins.0)
+  -- From the opening on, the sittings made a run.
+  pub came_home : (bytes : List ℕ) (t : Sat) → Opened book lists s → Comes book lists s branch base bytes t → Came book lists (reached (take (length lists) bytes) t) (counted t)
+  came_home bytes t o run = run (subst (λ (x : State). Run lists book unsettled x) (sym (o.state branch base)) o.begins.0)
 
 -- The book of what was loaded.
 pub book_same : (bs : List ℕ) (s : Job) (n : Loaded) (gs : List GapEntry) (ts : List TableEntry) → n ≡ held s → gs ≡ s.gaps → ts ≡ s.tables → book_at bs n gs ts ≡ book_of bs s
-book_same bs s n gs ts e f h =
-    ap (λ (x : Loaded). book_at bs x gs ts) e ∙ ap (λ (x : List GapEntry). book_at bs (held s) x ts) f ∙ ap (λ (x : List TableEntry). book_at bs (held s) s.gaps x) h
-    ∙ ap (λ (x : List GapEntry). joined (gaps (length s.lists) x) (tables (length s.lists) bs (take (length s.tables) s.tables))) (take_all (length s.gaps) s.gaps (omega arith))
-    ∙ ap (λ (x : List TableEntry). joined (gaps (length s.lists) s.gaps) (tables (length s.lists) bs x)) (take_all (length s.tables) s.tables (omega arith))
+book_same bs s n gs ts e f h = rw (e, f, h, take_all (length s.gaps) s.gaps (omega arith), take_all (length s.tables) s.tables (omega arith)) refl
 
 -- What came, told of the job's own lists and book.
 pub came_same : (m m' : Meaning) (ls ls' : List ℕ) (v v' : Reached) (c c' : Counts) → m ≡ m' → ls ≡ ls' → v ≡ v' → c ≡ c' → Came m ls v c → Came m' ls' v' c'
-came_same m m' ls ls' v v' c c' e f h k x =
-    subst (λ (y : Counts). Came m' ls' v' y) k (subst (λ (y : Reached). Came m' ls' y c) h (subst (λ (y : List ℕ). Came m' y v c) f (subst (λ (y : Meaning). Came y ls v c) e x)))
+came_same m m' ls ls' v v' c c' e f h k x = rw (e, f, h, k) at x

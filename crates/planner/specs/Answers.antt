@@ -6,7 +6,7 @@ use Rattle.planner.specs.declared.answer.Answer.{Answer}
 use Rattle.planner.specs.declared.answer.Verdict.{Verdict}
 use Rattle.planner.specs.declared.answer.Verdict.TheVariants.{Plan, None, Open}
 use Rattle.planner.specs.declared.error.PlanError.{PlanError}
-use Rattle.planner.specs.declared.regions.Regions.{Regions}
+use Rattle.planner.specs.declared.memory.Memory.{Memory}
 use Rattle.rules.specs.Meanings.{Meaning}
 use Rattle.model.specs.Moves.{State}
 use Rattle.laws.specs.Sittings.{Verdict as Reached, none, plan, unsettled}
@@ -18,8 +18,6 @@ use Rattle.search.specs.declared.held.Sat.{Sat}
 use Rattle.search.specs.declared.held.Sat.TheVariants.{Plan as SatPlan, None as SatNone, Open as SatOpen}
 use Rattle.search.specs.Turns.{state_of}
 use Rattle.search.specs.Sittings.{Tells}
-use Rattle.planner.specs.declared.solve.Found.{Found}
-use Rattle.planner.specs.declared.solve.Found.TheVariants.{Plan as FoundPlan, None as FoundNone, Open as FoundOpen}
 use Rattle.planner.specs.Stores.{places, Unstored}
 
 -- a plan has one channel for each of n groups
@@ -29,15 +27,25 @@ Shaped n None = Unit {0}
 Shaped n Open = Unit {0}
 
 -- the plan and the base are as long as they were
-abbrev pub Kept : Regions → Regions → Type 0
+abbrev pub Kept : Memory → Memory → Type 0
 Kept r s = (vec_len s.plan ≡ vec_len r.plan) × (vec_len s.base ≡ vec_len r.base)
 
--- The verdict of the sittings, with the bytes of a plan; and that of an answer.
-abbrev pub reached : List ℕ → Found → Reached
-reached bytes FoundPlan = plan bytes
-reached bytes FoundNone = none
-reached bytes FoundOpen = unsettled
+-- the branch, the plan and the base are as they were
+abbrev pub Unmoved : Memory → Memory → Type 0
+Unmoved r s = (vec_items s.branch ≡ vec_items r.branch) × (vec_items s.plan ≡ vec_items r.plan) × (vec_items s.base ≡ vec_items r.base)
 
+-- The verdict of the sittings, with the bytes of a plan, and their counts.
+abbrev pub reached : List ℕ → Sat → Reached
+reached bytes (SatPlan _) = plan bytes
+reached bytes (SatNone _) = none
+reached bytes (SatOpen _) = unsettled
+
+abbrev pub counted : Sat → Counts
+counted (SatPlan d) = d.counts
+counted (SatNone d) = d.counts
+counted (SatOpen t) = record { moves = t.at.moves; closings = t.at.closings; restarts = t.at.restarts }
+
+-- The verdict of an answer.
 abbrev pub told_by : Verdict → Reached
 told_by (Plan v) = plan (vec_items v)
 told_by None = none
@@ -58,8 +66,8 @@ GoesOn book lists s branch base branch' base' bytes (SatNone d) = Stands book li
 GoesOn book lists s branch base branch' base' bytes (SatOpen t) = Stands book lists s branch base → (run : Stands book lists t branch' base') × Law lists book run
 
 -- What the sittings together make of it.
-abbrev pub Comes : Meaning → List ℕ → OpenSearch → List ℕ → List ℕ → List ℕ → Found × Counts → Type 0
-Comes book lists s branch base bytes f = Stands book lists s branch base → Came book lists (reached (take (length lists) bytes) f.0) f.1
+abbrev pub Comes : Meaning → List ℕ → OpenSearch → List ℕ → List ℕ → List ℕ → Sat → Type 0
+Comes book lists s branch base bytes t = Stands book lists s branch base → Came book lists (reached (take (length lists) bytes) t) (counted t)
 
 -- An answer comes only to a job without a fault. A run of calls on the job's lists and book came to its verdict and counts, and the law of runs holds of it: so there is no plan
 -- where it is "none", and the channels are a plan where it is one. A plan has one channel for each group.

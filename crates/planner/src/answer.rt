@@ -38,10 +38,16 @@ impl fmt::Display for Verdict {
 
 impl fmt::Display for Answer {
     fn fmt<W: fmt::Write>(&self, f: &mut fmt::Formatter<W>) -> fmt::Result {
-        let moves = self.counts.moves;
-        let closings = self.counts.closings;
-        let restarts = self.counts.restarts;
-        let verdict = &self.verdict;
+        let Answer {
+            verdict,
+            counts,
+            base: _,
+        } = self;
+        let Counts {
+            moves,
+            closings,
+            restarts,
+        } = *counts;
         write!(
             f,
             "{verdict}moves {moves} closings {closings} restarts {restarts}"

@@ -1,9 +1,14 @@
 // Why there is no answer: the job is refused, or memory is wanting.
 ghost use Rattle.std.specs.Prelude.{◌≡◌};
+ghost use Rattle.jobs.specs.Numbers.{numbered};
+ghost use Rattle.rules.specs.Refusals.{told};
+ghost use Rattle.rules.specs.declared.refusal.Refusal.{Refusal};
 ghost use Rattle.planner.specs.declared.error.PlanError.TheVariants.{Refused as refused_by, NoMemory};
 
+use jobs::fault::LoadFault;
 use rules::refusal::Refusal;
-use std::alloc::{AllocError, AllocFailed as Unplaced};
+use search::held::OpenSearch;
+use std::alloc::{AllocError, AllocFailed};
 use std::fmt;
 
 #[derive(Clone, Copy)]
@@ -22,6 +27,25 @@ impl From<Refusal> for PlanError {
     }
 }
 
+impl From<LoadFault> for PlanError {
+    ghost from_gives = { λ e r. (q : Refusal) × (r ≡ refused_by q) × (told q ≡ (numbered e.fault, e.offset)) };
+
+    fn from(e: LoadFault) -> PlanError {
+        PlanError::Refused(e.refusal())
+    }
+}
+
+// A refused call gives up the search that it hands back.
+impl From<(Refusal, OpenSearch)> for PlanError {
+    ghost from_gives = { λ e r. r ≡ refused_by e.0 };
+
+    fn from(e: (Refusal, OpenSearch)) -> PlanError {
+        let (refusal, search) = e;
+        let _ = search.leave();
+        PlanError::Refused(refusal)
+    }
+}
+
 impl From<AllocError> for PlanError {
     ghost from_gives = { λ _ r. r ≡ NoMemory };
 
@@ -30,10 +54,10 @@ impl From<AllocError> for PlanError {
     }
 }
 
-impl<T: Drop> From<Unplaced<T>> for PlanError {
+impl<T: Drop> From<AllocFailed<T>> for PlanError {
     ghost from_gives = { λ _ r. r ≡ NoMemory };
 
-    fn from(_e: Unplaced<T>) -> PlanError {
+    fn from(_e: AllocFailed<T>) -> PlanError {
         PlanError::NoMemory
     }
 }

@@ -3,6 +3,6 @@
 
 pub mod answer;
 pub mod error;
-mod regions;
+pub mod memory;
 pub mod solve;
-mod store;
+pub mod store;

@@ -1,19 +1,19 @@
 // The search for a plan of a job: its memory, its sittings and its answer.
-ghost use Rattle.std.specs.Prelude.{◌≡◌, ◌<◌, ◌≤◌, length, IfOk, Err, vec_len, MatchResult};
+ghost use Rattle.std.specs.Prelude.{◌≡◌, ◌<◌, ◌≤◌, length, IfOk, Err, MatchResult};
 ghost use Rattle.rules.specs.declared.refusal.Refusal.TheVariants.{NoPlace};
 ghost use Rattle.planner.specs.declared.error.PlanError.TheVariants.{Refused};
-ghost use Rattle.planner.specs.Answers.{Shaped, Kept, GoesOn, Comes, reached, told_by, Answered, Unanswered};
+ghost use Rattle.planner.specs.Answers.{Kept, GoesOn, Comes, Answered, Unanswered};
 
-use crate::answer::{Answer, Verdict};
+use crate::answer::Answer;
 use crate::error::PlanError;
-use crate::regions::Regions;
-use crate::store::load_store;
+use crate::memory::Memory;
+use crate::store::Store;
 use branching::{FewestFirst, Geometric, LastConflict, Order, RestartPolicy};
 use jobs::book::book;
 use rules::book::RuleBook;
 use rules::refusal::Refusal;
-use search::calls::{open, sitting};
-use search::held::{Counts, OpenSearch, Sat};
+use search::calls::open;
+use search::held::{OpenSearch, Sat};
 use std::alloc::Global;
 
 // How long is searched, and with how many words to record nogoods in.
@@ -33,53 +33,7 @@ pub const PROGRAM: Settings = Settings {
 
 pub const LONGEST_JOB: usize = 65_536;
 
-// How the sittings ended.
-#[derive(Clone, Copy)]
-pub enum Found {
-    Plan,
-    None,
-    Open,
-}
-
-// One sitting in the regions, or the refusal of one.
-fn sit<B: RuleBook, O: Order, P: RestartPolicy>(
-    search: OpenSearch,
-    lists: &[u64],
-    book: &B,
-    order: &mut O,
-    policy: &mut P,
-    allowance: u32,
-    regions: &mut Regions,
-) -> Result<Sat, PlanError>
-    ensures kept { Kept regions.old regions.new }
-    ensures goes_on { IfOk result (λ t. GoesOn (B.RuleBook.meaning book.now) lists.now «search» regions.old.branch.items regions.old.base.items regions.new.branch.items regions.new.base.items regions.new.plan.items t) }
-{
-    let sat = sitting(
-        search,
-        lists,
-        book,
-        order,
-        policy,
-        allowance,
-        &mut regions.domains,
-        &mut regions.branch,
-        &mut regions.bench.marks,
-        &mut regions.bench.ends,
-        &mut regions.bench.settled,
-        &mut regions.plan,
-        &mut regions.base,
-    );
-    match sat {
-        Ok(sat) => Ok(sat),
-        Err(back) => {
-            let (refusal, search) = back;
-            let _ = search.leave();
-            Err(PlanError::Refused(refusal))
-        }
-    }
-}
-
-// The sittings on an open search, one after another, until one settles it.
+// The sittings on an open search, one after another, until one settles it or none is left.
 pub fn sit_on<B: RuleBook, O: Order, P: RestartPolicy>(
     mut search: OpenSearch,
     lists: &[u64],
@@ -87,53 +41,19 @@ pub fn sit_on<B: RuleBook, O: Order, P: RestartPolicy>(
     order: &mut O,
     policy: &mut P,
     settings: Settings,
-    regions: &mut Regions,
-) -> Result<(Found, Counts), PlanError>
-    ensures kept { Kept regions.old regions.new }
-    ensures comes { IfOk result (λ f. Comes (B.RuleBook.meaning book.now) lists.now «search» regions.old.branch.items regions.old.base.items regions.new.plan.items f) }
+    memory: &mut Memory,
+) -> Result<Sat, PlanError>
+    ensures kept { Kept memory.old memory.new }
+    ensures goes_on { IfOk result (λ t. GoesOn (B.RuleBook.meaning book.now) lists.now «search» memory.old.branch.items memory.old.base.items memory.new.branch.items memory.new.base.items memory.new.plan.items t) }
+    ensures comes { IfOk result (λ t. Comes (B.RuleBook.meaning book.now) lists.now «search» memory.old.branch.items memory.old.base.items memory.new.plan.items t) }
 {
     for _sitting in 0..settings.sittings {
-        match sit(
-            search,
-            lists,
-            book,
-            order,
-            policy,
-            settings.allowance,
-            regions,
-        )? {
-            Sat::Plan(settled) => return Ok((Found::Plan, settled.counts())),
-            Sat::None(settled) => return Ok((Found::None, settled.counts())),
+        match memory.sit(search, lists, book, order, policy, settings.allowance)? {
             Sat::Open(next) => search = next,
+            settled => return Ok(settled),
         }
     }
-    Ok((Found::Open, search.leave()))
-}
-
-// The answer that the sittings came to, with the plan and the base that they left.
-fn answer(found: Found, counts: Counts, regions: Regions) -> Answer
-    ensures verdict { Shaped (vec_len regions.plan) result.verdict }
-    ensures told { told_by result.verdict ≡ reached regions.plan.items found }
-    ensures counts { result.counts ≡ counts }
-    ensures base { vec_len result.base ≡ vec_len regions.base }
-{
-    let Regions {
-        domains: _,
-        branch: _,
-        plan,
-        base,
-        bench: _,
-    } = regions;
-    let verdict = match found {
-        Found::Plan => Verdict::Plan(plan),
-        Found::None => Verdict::None,
-        Found::Open => Verdict::Open,
-    };
-    Answer {
-        verdict,
-        counts,
-        base,
-    }
+    Ok(Sat::Open(search))
 }
 
 // Loads the job and searches for a plan of it.
@@ -146,19 +66,13 @@ pub fn solve<O: Order, P: RestartPolicy>(
 ) -> Result<Answer, PlanError>
     ensures { MatchResult result (λ a. Answered job.now settings.base_words a) (λ e. Unanswered job.now e) }
 {
-    let store = load_store(heap, job)?;
-    let rules = store.gaps.len() + store.tables.len();
-    let mut regions = Regions::new(heap, store.lists.len(), rules, settings.base_words)?;
+    let store = Store::load(heap, job)?;
+    let mut memory = Memory::new(heap, &store, settings.base_words)?;
     let lists = store.lists.as_slice();
-    let book = book(
-        job,
-        store.loaded,
-        store.gaps.as_slice(),
-        store.tables.as_slice(),
-    );
+    let book = book(job, store.loaded, &store.gaps, &store.tables);
     let search = open(lists, &book)?;
-    let (found, counts) = sit_on(search, lists, &book, order, policy, settings, &mut regions)?;
-    Ok(answer(found, counts, regions))
+    let sat = sit_on(search, lists, &book, order, policy, settings, &mut memory)?;
+    Ok(memory.answer(sat))
 }
 
 // What the program answers to the bytes on its input.

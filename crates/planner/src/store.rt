@@ -1,10 +1,7 @@
 // The memory that a job is loaded into.
-ghost use Rattle.std.specs.Prelude.{◌≡◌, ◌≤◌, IfOk, vec_len, MatchResult};
-ghost use Rattle.jobs.specs.Jobs.{lent, room as room_of};
-ghost use Rattle.planner.specs.Stores.{Taken, Faulty, Stored, Unstored};
+ghost use Rattle.std.specs.Prelude.{◌≡◌, ◌+◌, ◌≤◌, vec_len, MatchResult};
 
 use crate::error::PlanError;
-use jobs::fault::LoadFault;
 use jobs::load::{Loaded, load};
 use rules::gap::GapEntry;
 use rules::table::TableEntry;
@@ -27,46 +24,44 @@ const NO_TABLE: TableEntry = TableEntry {
     offset: 0,
 };
 
+// What a job says: its lists, its gaps and its tables.
 #[derive(Drop)]
 pub struct Store {
     pub loaded: Loaded,
     pub lists: Vec<u64>,
     pub gaps: Vec<GapEntry>,
     pub tables: Vec<TableEntry>,
+    pub ghost few_lists: { vec_len lists ≤ 200 },
+    pub ghost few_gaps: { vec_len gaps ≤ 4096 },
+    pub ghost few_tables: { vec_len tables ≤ 4096 },
 }
 
-// Fills the places with what the job says, and cuts them off behind it.
-fn fill(
-    job: &[u8],
-    lists: &mut Vec<u64>,
-    gaps: &mut Vec<GapEntry>,
-    tables: &mut Vec<TableEntry>,
-) -> Result<Loaded, LoadFault>
-    ensures taken { MatchResult result (λ n. Taken job.now (room_of (lent lists.old.items gaps.old.items tables.old.items)) n lists.new.items gaps.new.items tables.new.items) (λ f. Faulty job.now (room_of (lent lists.old.items gaps.old.items tables.old.items)) f) }
-    ensures few { (vec_len lists.new ≤ vec_len lists.old) × (vec_len gaps.new ≤ vec_len gaps.old) × (vec_len tables.new ≤ vec_len tables.old) }
-{
-    let loaded = load(job, lists, gaps, tables)?;
-    lists.truncate(loaded.groups as usize);
-    gaps.truncate(loaded.gaps as usize);
-    tables.truncate(loaded.tables as usize);
-    Ok(loaded)
-}
+impl Store {
+    ghost use Rattle.planner.specs.Stores.{Stored, Unstored};
 
-// The lists, the gaps and the tables of a job, or its first fault.
-pub fn load_store(heap: Global, job: &[u8]) -> Result<Store, PlanError>
-    ensures stored { MatchResult result (λ s. Stored job.now s) (λ e. Unstored job.now e) }
-    ensures few { IfOk result (λ s. (vec_len s.lists ≤ 200) × (vec_len s.gaps ≤ 4096) × (vec_len s.tables ≤ 4096)) }
-{
-    let mut lists = vec![in heap; 0u64; GROUPS]?;
-    let mut gaps = vec![in heap; NO_GAP; RULES]?;
-    let mut tables = vec![in heap; NO_TABLE; RULES]?;
-    match fill(job, &mut lists, &mut gaps, &mut tables) {
-        Ok(loaded) => Ok(Store {
+    // The lists, the gaps and the tables of a job, or its first fault.
+    pub fn load(heap: Global, job: &[u8]) -> Result<Store, PlanError>
+        ensures { MatchResult result (λ s. Stored job.now s) (λ e. Unstored job.now e) }
+    {
+        let mut lists = vec![in heap; 0u64; GROUPS]?;
+        let mut gaps = vec![in heap; NO_GAP; RULES]?;
+        let mut tables = vec![in heap; NO_TABLE; RULES]?;
+        let loaded = load(job, &mut lists, &mut gaps, &mut tables)?;
+        lists.truncate(loaded.groups as usize);
+        gaps.truncate(loaded.gaps as usize);
+        tables.truncate(loaded.tables as usize);
+        Ok(Store {
             loaded,
             lists,
             gaps,
             tables,
-        }),
-        Err(fault) => Err(PlanError::Refused(fault.refusal())),
+        })
+    }
+
+    // How many rules the job has.
+    pub(crate) fn rules(&self) -> usize
+        ensures { result ≡ vec_len self.now.gaps + vec_len self.now.tables }
+    {
+        self.gaps.len() + self.tables.len()
     }
 }

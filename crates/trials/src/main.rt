@@ -9,12 +9,11 @@ mod drawn;
 mod exhaustive;
 mod highest;
 mod job;
-mod room;
 mod script;
 mod tally;
 
 use accounts::show_accounts;
-use drawn::{Calls, try_jobs};
+use drawn::{Tallies, try_jobs};
 use std::io;
 
 const JOBS: u32 = 2400;
@@ -25,23 +24,18 @@ fn main(rt: HostRuntime) -> io::Result<()> {
     show_accounts(&rt)?;
     let tallies = try_jobs(rt.alloc(), SEED, JOBS)?;
     println!(rt; "{JOBS} drawn jobs, each also solved by trying every choice")?;
-    let program = tallies.program;
+    let Tallies {
+        program,
+        steady,
+        highest,
+        scripts,
+        calls,
+    } = tallies;
     println!(rt; "last conflict over fewest first, geometric: {program}")?;
-    let steady = tallies.steady;
     println!(rt; "fewest first, steady at 1, a base of 40 words: {steady}")?;
-    let highest = tallies.highest;
     println!(rt; "highest group first, cutoffs 1 and 3 in turn, sittings of 2 moves: {highest}")?;
-    let scripts = tallies.scripts;
     println!(rt; "drawn scripts of calls, a base of 60 words: {scripts}")?;
-    let Calls {
-        sittings,
-        restarts,
-        refused,
-        wrong,
-    } = tallies.calls;
-    println!(rt;
-        "in the scripts: {sittings} sittings, {restarts} restarts, {refused} refused calls, {wrong} past a bound or not refused"
-    )?;
+    println!(rt; "in the scripts: {calls}")?;
     let disagreements = tallies.disagreements();
     if disagreements == 0 {
         println!(rt; "all agree")

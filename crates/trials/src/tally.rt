@@ -1,19 +1,12 @@
 // How often each verdict came, and how often it was not the one that trying every choice gives.
+ghost use Rattle.std.specs.Prelude.{◌≡◌, ◌+◌, min};
+
 use crate::job::Job;
-use crate::script::Ended;
 use planner::answer::{Answer, Verdict};
 use planner::error::PlanError;
 use std::fmt;
 
-#[derive(Clone, Copy)]
-pub enum Outcome {
-    Plan,
-    None,
-    Open,
-    Disagrees,
-}
-
-#[derive(Clone, Copy)]
+#[derive(Clone, Copy, Default)]
 pub struct Tally {
     pub plans: u32,
     pub none: u32,
@@ -21,56 +14,24 @@ pub struct Tally {
     pub disagreements: u32,
 }
 
-// What the answer is worth for a job of which it is known whether it has a plan.
-pub fn compare(job: &Job, solvable: bool, answer: Result<Answer, PlanError>) -> Outcome {
-    match answer {
-        Ok(
-            Answer {
-                verdict,
-                counts: _,
-                base: _,
-            },
-        ) => match verdict {
-            Verdict::Plan(channels) if solvable && job.is_plan(channels.as_slice()) =>
-                Outcome::Plan,
-            Verdict::None if !solvable => Outcome::None,
-            Verdict::Open => Outcome::Open,
-            _ => Outcome::Disagrees,
-        },
-        Err(_) => Outcome::Disagrees,
-    }
-}
-
-// What the end of a script is worth, with the plan in front of the region that was lent for one.
-pub fn judge(job: &Job, solvable: bool, ended: Ended, plan: &[u8]) -> Outcome {
-    let groups = job.lists.len();
-    match ended {
-        Ended::Plan if solvable && groups <= plan.len() && job.is_plan(&plan[0..groups]) =>
-            Outcome::Plan,
-        Ended::None if !solvable => Outcome::None,
-        Ended::Open => Outcome::Open,
-        _ => Outcome::Disagrees,
-    }
+// Counts one more, as far as the count can go.
+pub fn count_one(count: &mut u32)
+    ensures { count.new ≡ min (count.old + 1) 4294967295 }
+{
+    *count = count.saturating_add(1);
 }
 
 impl Tally {
-    pub fn new() -> Tally {
-        Tally {
-            plans: 0,
-            none: 0,
-            open: 0,
-            disagreements: 0,
+    // Counts the answer to a job of which it is known whether it has a plan.
+    pub fn note(&mut self, job: &Job, solvable: bool, answer: Result<Answer, PlanError>) {
+        match answer.map(|answer| answer.verdict) {
+            Ok(Verdict::Plan(channels)) if solvable && job.is_plan(&channels) => count_one(
+                &mut self.plans,
+            ),
+            Ok(Verdict::None) if !solvable => count_one(&mut self.none),
+            Ok(Verdict::Open) => count_one(&mut self.open),
+            _ => count_one(&mut self.disagreements),
         }
-    }
-
-    pub fn note(&mut self, outcome: Outcome) {
-        let count = match outcome {
-            Outcome::Plan => &mut self.plans,
-            Outcome::None => &mut self.none,
-            Outcome::Open => &mut self.open,
-            Outcome::Disagrees => &mut self.disagreements,
-        };
-        *count = count.saturating_add(1);
     }
 }
 

@@ -1,0 +1,105 @@
+// The regions that are lent to the calls on a search, the sittings in them, and what these leave of an answer.
+ghost use Rattle.std.specs.Prelude.{◌≡◌, IfOk, IfErr, OnErr, vec_items, vec_len};
+ghost use Rattle.planner.specs.Answers.{Shaped, Kept, Unmoved, GoesOn, reached, counted, told_by};
+
+use crate::answer::{Answer, Verdict};
+use crate::error::PlanError;
+use crate::store::Store;
+use branching::{Order, RestartPolicy};
+use propagation::records::{Assignment, RuleEnd};
+use rules::book::RuleBook;
+use rules::refusal::Refusal;
+use search::calls::sitting;
+use search::held::{OpenSearch, Sat};
+use std::alloc::Global;
+
+// All that is lent: what remains, the branch, the plan and the base; and what a call works in and may leave as it likes.
+#[derive(Drop)]
+pub struct Memory {
+    pub domains: Vec<u64>,
+    pub branch: Vec<u32>,
+    pub plan: Vec<u8>,
+    pub base: Vec<u32>,
+    pub marks: Vec<u32>,
+    pub ends: Vec<RuleEnd>,
+    pub settled: Vec<Assignment>,
+}
+
+impl Memory {
+    // The regions for a loaded job, with a base of so many words.
+    pub fn new(heap: Global, store: &Store, base_words: u32) -> Result<Memory, PlanError>
+        ensures plan { IfOk result (λ m. vec_len m.plan ≡ vec_len store.now.lists) }
+        ensures base { IfOk result (λ m. vec_len m.base ≡ base_words) }
+    {
+        let groups = store.lists.len();
+        let end = RuleEnd {
+            rule: 0,
+            second: false,
+        };
+        let assignment = Assignment {
+            group: 0,
+            channel: 0,
+        };
+        Ok(Memory {
+            domains: vec![in heap; 0u64; groups]?,
+            branch: vec![in heap; 0u32; 64 * groups]?,
+            plan: vec![in heap; 0u8; groups]?,
+            base: vec![in heap; 0u32; base_words as usize]?,
+            marks: vec![in heap; 0u32; 256]?,
+            ends: vec![in heap; end; 2 * store.rules()]?,
+            settled: vec![in heap; assignment; groups]?,
+        })
+    }
+
+    // One sitting in the regions. A refused one hands the search back, and leaves the words and the plan as they were.
+    pub fn sit<B: RuleBook, O: Order, P: RestartPolicy>(
+        &mut self,
+        search: OpenSearch,
+        lists: &[u64],
+        book: &B,
+        order: &mut O,
+        policy: &mut P,
+        allowance: u32,
+    ) -> Result<Sat, (Refusal, OpenSearch)>
+        ensures kept { Kept self.old self.new }
+        ensures goes_on { IfOk result (λ t. GoesOn (B.RuleBook.meaning book.now) lists.now «search» self.old.branch.items self.old.base.items self.new.branch.items self.new.base.items self.new.plan.items t) }
+        ensures handed_back { IfErr result (λ e. e.1 ≡ «search») }
+        ensures unmoved { OnErr result (Unmoved self.old self.new) }
+    {
+        sitting(
+            search,
+            lists,
+            book,
+            order,
+            policy,
+            allowance,
+            &mut self.domains,
+            &mut self.branch,
+            &mut self.marks,
+            &mut self.ends,
+            &mut self.settled,
+            &mut self.plan,
+            &mut self.base,
+        )
+    }
+
+    // The answer that the last sitting came to, with the plan and the base that it left.
+    pub fn answer(self, sat: Sat) -> Answer
+        ensures verdict { Shaped (vec_len self.plan) result.verdict }
+        ensures told { told_by result.verdict ≡ reached self.plan.items sat }
+        ensures counts { result.counts ≡ counted sat }
+        ensures base { vec_len result.base ≡ vec_len self.base }
+    {
+        let Memory { plan, base, .. } = self;
+        let (verdict, counts) = match sat {
+            Sat::Plan(settled) => (Verdict::Plan(plan), settled.counts()),
+            Sat::None(settled) => (Verdict::None, settled.counts()),
+            Sat::Open(search) => (Verdict::Open, search.leave()),
+        };
+        Answer {
+            verdict,
+            counts,
+            base,
+        }
+    }
+}
