@@ -1,21 +1,22 @@
 -- What was written is read back.
-use Rattle.std.proofs.Common.{◌≡◌, ℕ, suc, ◌+◌, ◌-◌, ◌<◌, ◌≤◌, true, false, cond, eqb, List, [], ◌∷◌, ◌++◌, length, get_or, take, drop, Some, None, Option, sym, refl, ap, ◌∙◌, subst, append_assoc, add-zero, arith, lit≤, length-append, length-drop, length-take}
+use Rattle.std.proofs.Common.{◌≡◌, ℕ, suc, ◌+◌, ◌-◌, ◌<◌, ◌≤◌, true, false, cond, List, [], ◌∷◌, ◌++◌, length, get_or, take, drop, Some, None, Option, sym, refl, ap, ◌∙◌, subst, append_assoc, add-zero, arith, lit≤, length-append, length-drop, length-take}
 use Rattle.std.specs.List.{count_by}
 use Rattle.std.proofs.lemmas.List.Sums.{sum_by-append}
 use Rattle.std.proofs.lemmas.List.{get_or-drop, drop-drop, take_at, drop_at, append-nil, length_push, take_more}
 use Rattle.std.proofs.lemmas.Bool.{cond-true, cond-false, and_from, eq-eqb, lt-ltb, le-ltb, true≢false}
 use Rattle.std.specs.Option.{option_or}
+use Rattle.rules.proofs.Firsts.{below_suc}
 use Rattle.jobs.specs.declared.fault.RecordFault.{RecordFault}
 use Rattle.jobs.specs.declared.item.Item.{Item}
 use Rattle.jobs.specs.declared.item.Item.TheVariants.{Counts, Channels, Near, Rows}
 use Rattle.jobs.specs.declared.judge.Room.{Room}
 use Rattle.jobs.specs.declared.judge.Seen.{Seen}
 use Rattle.jobs.specs.Records.{kind, unread, part}
-use Rattle.jobs.specs.Items.{item, counts, channels, near, rows}
+use Rattle.jobs.specs.Items.{item, of_kind, counts, channels, near, rows}
 use Rattle.jobs.specs.Judged.{wrong, fault, onward, Few}
 use Rattle.jobs.specs.Jobs.{State, start, grown, after, tally, ending, held, filled, room, Sound}
 use Rattle.jobs.proofs.Wholes.{whole}
-use Rattle.jobs.proofs.Steps.{below_suc, few_more}
+use Rattle.jobs.proofs.Steps.{few_more}
 use Rattle.jobs.specs.Writes.{bytes, written, all_written, Writable, moved, told_all, job, Fitting, none, more, is_group, is_rule, RoundTrip}
 use Rattle.jobs.proofs.Digits.{two_back, two_back_2, eight_back}
 
@@ -42,11 +43,6 @@ span (Channels l) = 9
 span (Near e) = 6
 span (Rows e) = 517
 
-abbrev pick : List ℕ → ℕ → ℕ → Item
-pick bs p k = cond (eqb k 0) (counts (part bs p 4))
-    (cond (eqb k 1) (channels (part bs p 8))
-    (cond (eqb k 2) (near (part bs p 5)) (rows (part bs p 516) p)))
-
 pub record Back (bs : List ℕ) (p : ℕ) (x : Item) (r : List ℕ) : Type 0 where
   pub item_is : item bs p ≡ moved p x
   pub whole_is : unread bs p ≡ None
@@ -66,7 +62,7 @@ back : (bs : List ℕ) (p : ℕ) (src : List ℕ) (x : Item) (r : List ℕ) → 
 back bs p src (Counts g c) r w e =
     let f = front bs p 0 (bytes 2 g ++ bytes 2 c) r 4 refl e in
     record {
-      item_is = ap (pick bs p) f.kind_is ∙ (ap counts f.part_is ∙ pair_is Counts _ _ g c (two_back g (bytes 2 c) w.0) (two_back_2 g c [] w.1));
+      item_is = ap (of_kind bs p) f.kind_is ∙ (ap counts f.part_is ∙ pair_is Counts _ _ g c (two_back g (bytes 2 c) w.0) (two_back_2 g c [] w.1));
       whole_is = whole bs p 0 f.kind_is (lit≤ tt) (omega (arith, f.len));
       len = omega (arith, f.len);
       next = subst (λ q. drop q bs ≡ r) (omega arith) f.next;
@@ -74,7 +70,7 @@ back bs p src (Counts g c) r w e =
 back bs p src (Channels l) r w e =
     let f = front bs p 1 (bytes 8 l) r 8 refl e in
     record {
-      item_is = ap (pick bs p) f.kind_is ∙ (ap channels f.part_is ∙ ap Channels (eight_back l [] w));
+      item_is = ap (of_kind bs p) f.kind_is ∙ (ap channels f.part_is ∙ ap Channels (eight_back l [] w));
       whole_is = whole bs p 1 f.kind_is (lit≤ tt) (omega (arith, f.len));
       len = omega (arith, f.len);
       next = subst (λ q. drop q bs ≡ r) (omega arith) f.next;
@@ -82,7 +78,7 @@ back bs p src (Channels l) r w e =
 back bs p src (Near y) r w e =
     let f = front bs p 2 (bytes 2 y.first ++ (bytes 2 y.second ++ (y.gap ∷ []))) r 5 refl e in
     record {
-      item_is = ap (pick bs p) f.kind_is ∙ (ap near f.part_is ∙ pair_is (λ a b. gap_entry a b y.gap) _ _ y.first y.second
+      item_is = ap (of_kind bs p) f.kind_is ∙ (ap near f.part_is ∙ pair_is (λ a b. gap_entry a b y.gap) _ _ y.first y.second
           (two_back y.first (bytes 2 y.second ++ (y.gap ∷ [])) w.0) (two_back_2 y.first y.second (y.gap ∷ []) w.1));
       whole_is = whole bs p 2 f.kind_is (lit≤ tt) (omega (arith, f.len));
       len = omega (arith, f.len);
@@ -93,7 +89,7 @@ back bs p src (Rows y) r w e =
     let n : length (bytes 2 y.first ++ (bytes 2 y.second ++ take 512 (drop y.offset src))) ≡ 516 = omega arith in
     let f = front bs p 3 (bytes 2 y.first ++ (bytes 2 y.second ++ take 512 (drop y.offset src))) r 516 n e in
     record {
-      item_is = ap (pick bs p) f.kind_is ∙ (ap (λ b. rows b p) f.part_is ∙ pair_is (table_entry p) _ _ y.first y.second
+      item_is = ap (of_kind bs p) f.kind_is ∙ (ap (λ b. rows b p) f.part_is ∙ pair_is (table_entry p) _ _ y.first y.second
           (two_back y.first (bytes 2 y.second ++ take 512 (drop y.offset src)) w.0) (two_back_2 y.first y.second (take 512 (drop y.offset src)) w.1));
       whole_is = whole bs p 3 f.kind_is (lit≤ tt) (omega (arith, f.len));
       len = omega (arith, f.len);

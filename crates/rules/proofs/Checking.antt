@@ -1,17 +1,18 @@
 -- What each answer of a check means.
 use Rattle.std.proofs.Common.{◌≡◌, ℕ, ◌<◌, Bool, true, false, cond, eqb, ltb, leb, List, length, get_or, Some, None, Option, sym, refl, ap, ◌∙◌, subst, ⊎_elim, arith, MatchOption}
 use Rattle.std.proofs.lemmas.Bool.{false≢true, and_parts, and_from, not-false, not-true, not_from_true, not_from_false, ltb-true, lt-ltb, leb-true, le-leb, eqb-true, eq-eqb, cond-true, cases_lt, cases_Bool, both_ways}
+use Rattle.std.specs.Option.{option_or}
 use Rattle.rules.specs.Channels.{has, channel_in}
 use Rattle.rules.specs.Meanings.{Meaning, Lawful}
 use Rattle.rules.specs.Plans.{Listed, Complete, BreaksAt, Breaks, Plan}
-use Rattle.rules.specs.Checks.{or_else, lowest, placed_at, counts_fit, unlisted, broken_by, broken, Counted, FirstUnlisted, FirstBroken, CheckMeans, CheckFindsPlans}
+use Rattle.rules.specs.Checks.{lowest, placed_at, counts_fit, unlisted, broken_by, broken, Counted, FirstUnlisted, FirstBroken, CheckMeans, CheckFindsPlans}
 use Rattle.rules.specs.declared.refusal.Refusal.{Refusal}
 use Rattle.rules.specs.declared.refusal.Refusal.TheVariants.{Counts, NotListed, RuleBroken}
 use Rattle.rules.proofs.Firsts.{First, lowest_none, lowest_tells}
 
 -- the answer from its three parts
 abbrev answer : Bool → Option ℕ → Option ℕ → Option Refusal
-answer b u v = cond b (or_else (placed_at NotListed u) (placed_at RuleBroken v)) (Some Counts)
+answer b u v = cond b (option_or (placed_at NotListed u) (placed_at RuleBroken v)) (Some Counts)
 
 none_parts : (b : Bool) (u v : Option ℕ) → answer b u v ≡ None → (b ≡ true) × (u ≡ None) × (v ≡ None)
 none_parts true None None e = (refl, refl, refl)
@@ -128,7 +129,7 @@ module _ (lists : List ℕ) (book : Meaning) (x : List ℕ) where
     fits = λ e. let p = none_parts (counts_fit lists book x) un br e in let c = counted p.0 in
         (c, record { complete = complete c p.1; kept = kept law p.2 });
     plan = λ c p. cond-true (counts_fit lists book x) _ _ (fitted c)
-        ∙ (ap (λ (o : Option ℕ). or_else (placed_at NotListed o) (placed_at RuleBroken br)) (lowest_none (unlisted lists x) (length lists) (λ k l. there k (p.complete.listed k l)))
+        ∙ (ap (λ (o : Option ℕ). option_or (placed_at NotListed o) (placed_at RuleBroken br)) (lowest_none (unlisted lists x) (length lists) (λ k l. there k (p.complete.listed k l)))
         ∙ ap (placed_at RuleBroken) (lowest_none (broken book x) book.count (none_broken p)));
     counts = λ e c. both_ways (counts_fit lists book x) (counts_part (counts_fit lists book x) un br e) (fitted c);
     not_listed = λ g e. let p = listed_parts (counts_fit lists book x) un br g e in (counted p.0, first_unlisted_lem g p.1);

@@ -1,20 +1,16 @@
 -- What a check of a plan answers. Assumes nothing.
 use Rattle.std.specs.Prelude.{◌≡◌, ℕ, zero, suc, ◌<◌, ◌≤◌, Bool, false, cond, not, ◌&&◌, List, length, Some, None, Option, Result, MatchResult, ◌==◌, nat_le, slice_index, slice_index_or}
+use Rattle.std.specs.Option.{option_or}
 use Rattle.rules.specs.Channels.{channel_in}
 use Rattle.rules.specs.Meanings.{Meaning, Lawful}
 use Rattle.rules.specs.Plans.{Listed, Complete, BreaksAt, Plan}
 use Rattle.rules.specs.declared.refusal.Refusal.{Refusal}
 use Rattle.rules.specs.declared.refusal.Refusal.TheVariants.{Counts, NotListed, RuleBroken}
 
--- the first of two answers that is there
-abbrev pub or_else : {X : Type 0} → Option X → Option X → Option X
-or_else (Some x) o = Some x
-or_else None o = o
-
 -- the lowest number below n that passes a test
 abbrev pub lowest : (ℕ → Bool) → ℕ → Option ℕ
 lowest t zero = None
-lowest t (suc n) = or_else (lowest t n) (cond (t n) (Some n) None)
+lowest t (suc n) = option_or (lowest t n) (cond (t n) (Some n) None)
 
 -- the refusal with a place, where there is one
 abbrev pub placed_at : (ℕ → Refusal) → Option ℕ → Option Refusal
@@ -41,7 +37,7 @@ broken book x i = broken_by (book.ends i) book x i
 -- The first refusal: the counts, then the lowest group whose channel is not listed, then the lowest rule broken.
 abbrev pub check_refusal : List ℕ → Meaning → List ℕ → Option Refusal
 check_refusal lists book x = cond (counts_fit lists book x)
-    (or_else (placed_at NotListed (lowest (unlisted lists x) (length lists))) (placed_at RuleBroken (lowest (broken book x) book.count)))
+    (option_or (placed_at NotListed (lowest (unlisted lists x) (length lists))) (placed_at RuleBroken (lowest (broken book x) book.count)))
     (Some Counts)
 
 -- What a check answers: that the plan fits where there is no refusal, else the first.

@@ -12,7 +12,7 @@ fn counts_match<B: RuleBook>(lists: &[u64], book: &B, plan: &[u8]) -> bool
     ensures { result ≡ counts_fit lists.now (B.meaning book.now) plan.now }
 {
     let n = lists.len();
-    n >= 1 && n <= 200 && book.groups() as usize == n && book.count() <= 4096 && plan.len() == n
+    (1..=200).contains(&n) && book.groups() as usize == n && book.count() <= 4096 && plan.len() == n
 }
 
 // The lowest group whose channel is not in its list.
