@@ -1,7 +1,9 @@
--- Whether channels keep the rules of a small job.
-use Rattle.std.specs.Prelude.{ℕ, ◌/◌, ◌%◌, ◌^◌, Bool, true, ◌&&◌, ◌==◌, List, Some, None, Option, nat_le, nat_lt, slice_get, slice_index}
+-- Whether channels are a plan of a small job.
+use Rattle.std.specs.Prelude.{ℕ, ◌/◌, ◌%◌, ◌^◌, Bool, true, ◌&&◌, ◌==◌, List, length, Some, None, Option, nat_le, nat_lt, slice_get, slice_index}
 use Rattle.std.specs.Int.{abs_diff}
-use Rattle.std.specs.List.{list_all}
+use Rattle.std.specs.List.{list_all, zip}
+use Rattle.trials.specs.declared.job.Gap.{Gap}
+use Rattle.trials.specs.declared.job.Table.{Table}
 
 -- the set has the channel
 abbrev pub has : ℕ → ℕ → Bool
@@ -29,6 +31,10 @@ both permitted (Some a) (Some b) = permitted a b
 abbrev pub kept : List ℕ → ℕ × ℕ → (ℕ → ℕ → Bool) → Bool
 kept channels groups permitted = both permitted (slice_get channels groups.0) (slice_get channels groups.1)
 
--- every rule of a list is kept
-abbrev pub all_kept : {R : Type 0} → (R → ℕ × ℕ) → (R → ℕ → ℕ → Bool) → List ℕ → List R → Bool
-all_kept groups permitted channels rules = list_all (λ r. kept channels (groups r) (permitted r)) rules
+-- they keep every rule
+abbrev pub all_kept : List ℕ → List Gap → List Table → Bool
+all_kept channels gaps tables = list_all (λ g. kept channels (g.first, g.second) (apart g.gap)) gaps && list_all (λ t. kept channels (t.first, t.second) (in_rows t.rows)) tables
+
+-- they are a plan: one listed channel for each group, and every rule kept
+abbrev pub plan : List ℕ → List ℕ → List Gap → List Table → Bool
+plan channels lists gaps tables = (length channels == length lists && list_all listed (zip channels lists)) && all_kept channels gaps tables

@@ -3,3 +3,4 @@ pub mod Highest
 pub mod Tops
 pub mod AlternatingLemmas
 pub mod Kept
+pub mod Bytes

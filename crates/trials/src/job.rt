@@ -1,7 +1,9 @@
 // A small job as the trials hold it: its bytes, and whether a plan keeps its rules.
-ghost use Rattle.std.specs.Prelude.{◌≡◌, ℕ, ◌&&◌, ◌==◌, Bool, length, min};
-ghost use Rattle.std.specs.List.{list_all, zip};
-ghost use Rattle.trials.specs.Kept.{has, listed, apart, in_rows, kept, all_kept};
+ghost use Rattle.std.specs.Prelude.{◌≡◌, ℕ, ◌++◌, Bool, List, min, IfOk, OnOk};
+ghost use Rattle.std.specs.List.{flat_map, list_all, zip};
+ghost use Rattle.std.specs.Int.{to_be_bytes, w16, w64};
+ghost use Rattle.trials.specs.Bytes.{number, record_bytes, group_bytes, gap_bytes, table_bytes, job_bytes};
+ghost use Rattle.trials.specs.Kept.{has, listed, apart, in_rows, kept, all_kept, plan};
 
 use std::alloc::{AllocError, Global};
 
@@ -48,6 +50,8 @@ trait Rule {
 
     ghost permitted: { Self → ℕ → ℕ → Bool };
 
+    ghost told: { Self → List ℕ };
+
     fn groups(&self) -> (u16, u16)
         ensures { result ≡ ends self.now };
 
@@ -55,13 +59,17 @@ trait Rule {
     fn permits(&self, a: u8, b: u8) -> bool
         ensures { result ≡ permitted self.now a b };
 
-    fn add_to(&self, out: &mut Vec<u8>) -> Result<(), AllocError>;
+    // Adds the rule's record.
+    fn add_to(&self, out: &mut Vec<u8>) -> Result<(), AllocError>
+        ensures { OnOk result (out.new.items ≡ out.old.items ++ told self.now) };
 }
 
 impl Rule for Gap {
     ghost ends = { λ g. (g.first, g.second) };
 
     ghost permitted = { λ g. apart g.gap };
+
+    ghost told = { gap_bytes };
 
     fn groups(&self) -> (u16, u16) {
         (self.first, self.second)
@@ -83,6 +91,8 @@ impl Rule for Table {
 
     ghost permitted = { λ t. in_rows t.rows };
 
+    ghost told = { table_bytes };
+
     fn groups(&self) -> (u16, u16) {
         (self.first, self.second)
     }
@@ -93,10 +103,7 @@ impl Rule for Table {
 
     fn add_to(&self, out: &mut Vec<u8>) -> Result<(), AllocError> {
         add_record(out, Kind::Table, self.groups())?;
-        for row in self.rows.iter() {
-            add_word(out, *row)?;
-        }
-        Ok(())
+        add_words(out, &self.rows)
     }
 }
 
@@ -112,7 +119,7 @@ fn keeps<R: Rule>(channels: &[u8], rule: &R) -> bool
 }
 
 fn keeps_all<R: Rule>(channels: &[u8], rules: &[R]) -> bool
-    ensures { result ≡ all_kept R.ends R.permitted channels.now rules.now }
+    ensures { result ≡ list_all (λ r. kept channels.now (R.ends r) (R.permitted r)) rules.now }
 {
     rules.iter().all(|rule| keeps(channels, rule))
 }
@@ -133,17 +140,32 @@ fn half_word(count: usize) -> u16
     count.min(u16::MAX as usize) as u16
 }
 
-fn add_word(out: &mut Vec<u8>, word: u64) -> Result<(), AllocError> {
+fn add_word(out: &mut Vec<u8>, word: u64) -> Result<(), AllocError>
+    ensures { OnOk result (out.new.items ≡ out.old.items ++ to_be_bytes w64 word) }
+{
     out.extend_from_slice(&word.to_be_bytes())
 }
 
-fn add_record(out: &mut Vec<u8>, kind: Kind, numbers: (u16, u16)) -> Result<(), AllocError> {
+fn add_words(out: &mut Vec<u8>, words: &[u64]) -> Result<(), AllocError>
+    ensures { OnOk result (out.new.items ≡ out.old.items ++ flat_map (to_be_bytes w64) words.now) }
+{
+    for word in words {
+        add_word(out, *word)?;
+    }
+    Ok(())
+}
+
+fn add_record(out: &mut Vec<u8>, kind: Kind, numbers: (u16, u16)) -> Result<(), AllocError>
+    ensures { OnOk result (out.new.items ≡ out.old.items ++ record_bytes (number kind) numbers) }
+{
     out.push(kind as u8)?;
     out.extend_from_slice(&numbers.0.to_be_bytes())?;
     out.extend_from_slice(&numbers.1.to_be_bytes())
 }
 
-fn add_groups(out: &mut Vec<u8>, lists: &[u64]) -> Result<(), AllocError> {
+fn add_groups(out: &mut Vec<u8>, lists: &[u64]) -> Result<(), AllocError>
+    ensures { OnOk result (out.new.items ≡ out.old.items ++ flat_map group_bytes lists.now) }
+{
     for list in lists {
         out.push(Kind::Group as u8)?;
         add_word(out, *list)?;
@@ -151,7 +173,9 @@ fn add_groups(out: &mut Vec<u8>, lists: &[u64]) -> Result<(), AllocError> {
     Ok(())
 }
 
-fn add_rules<R: Rule>(out: &mut Vec<u8>, rules: &[R]) -> Result<(), AllocError> {
+fn add_rules<R: Rule>(out: &mut Vec<u8>, rules: &[R]) -> Result<(), AllocError>
+    ensures { OnOk result (out.new.items ≡ out.old.items ++ flat_map R.told rules.now) }
+{
     for rule in rules {
         rule.add_to(out)?;
     }
@@ -160,7 +184,9 @@ fn add_rules<R: Rule>(out: &mut Vec<u8>, rules: &[R]) -> Result<(), AllocError> 
 
 impl Job {
     // The job as a load reads it.
-    pub fn bytes(&self, heap: Global) -> Result<Vec<u8>, AllocError> {
+    pub fn bytes(&self, heap: Global) -> Result<Vec<u8>, AllocError>
+        ensures { IfOk result (λ v. v.items ≡ job_bytes self.now.lists.items self.now.gaps.items self.now.tables.items) }
+    {
         let mut out = Vec::new(heap);
         add_groups(&mut out, &self.lists)?;
         add_rules(&mut out, &self.gaps)?;
@@ -173,14 +199,14 @@ impl Job {
 
     // Whether the channels so far keep every rule between their groups.
     pub fn keeps_rules(&self, channels: &[u8]) -> bool
-        ensures { result ≡ (all_kept (λ g. (g.first, g.second)) (λ g. apart g.gap) channels.now self.now.gaps.items && all_kept (λ t. (t.first, t.second)) (λ t. in_rows t.rows) channels.now self.now.tables.items) }
+        ensures { result ≡ all_kept channels.now self.now.gaps.items self.now.tables.items }
     {
         keeps_all(channels, &self.gaps) && keeps_all(channels, &self.tables)
     }
 
     // Whether the channels are a plan: one listed channel for each group, and every rule kept.
     pub fn is_plan(&self, channels: &[u8]) -> bool
-        ensures { result ≡ ((length channels.now == length self.now.lists.items && list_all listed (zip channels.now self.now.lists.items)) && (all_kept (λ g. (g.first, g.second)) (λ g. apart g.gap) channels.now self.now.gaps.items && all_kept (λ t. (t.first, t.second)) (λ t. in_rows t.rows) channels.now self.now.tables.items)) }
+        ensures { result ≡ plan channels.now self.now.lists.items self.now.gaps.items self.now.tables.items }
     {
         channels.len() == self.lists.len()
             && are_listed(channels, &self.lists)
