@@ -1,5 +1,6 @@
 -- Last conflict, over any order. Assumes nothing.
-use Rattle.std.specs.Prelude.{ℕ, Bool, false, cond, not, ◌&&◌, ◌||◌, List, [], ◌∷◌, ◌++◌, length, Some, None, Option, ◌==◌, nat_lt}
+use Rattle.std.specs.Prelude.{ℕ, Bool, false, cond, find, not, ◌&&◌, List, [], ◌∷◌, ◌++◌, length, Some, None, Option, ◌==◌, nat_lt}
+use Rattle.std.specs.List.{list_any}
 use Rattle.branching.specs.Channels.{open?}
 use Rattle.branching.specs.Order.{OrderMeaning}
 
@@ -12,12 +13,10 @@ pub record Layer (H : Type 0) : Type 0 where
 
 -- the earliest added with two or more channels
 abbrev pub earliest : List ℕ → List ℕ → Option ℕ
-earliest [] ms = None
-earliest (g ∷ gs) ms = cond (open? ms g) (Some g) (earliest gs ms)
+earliest gs ms = find (open? ms) gs
 
 abbrev pub member : ℕ → List ℕ → Bool
-member g [] = false
-member g (x ∷ xs) = x == g || member g xs
+member g gs = list_any (λ x. x == g) gs
 
 -- a candidate with two or more channels
 abbrev pub ready : Option ℕ → List ℕ → Option ℕ

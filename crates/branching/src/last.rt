@@ -1,94 +1,63 @@
 // Last conflict: the groups of the last closings first, over any order.
 // It holds a small set of groups and one candidate, both kept over restarts.
-ghost use Rattle.std.specs.Prelude.{◌≡◌, ℕ, ◌+◌, ◌≤◌, min, List, length, take, Some, None};
+ghost use Rattle.std.specs.Prelude.{◌≡◌, ℕ, ◌+◌, ◌≤◌, min, [], List, length, Some, None};
 ghost use Rattle.branching.specs.Channels.{open?};
 ghost use Rattle.branching.specs.Order.{OrderMeaning, Lawful};
 ghost use Rattle.branching.specs.Layer.{Layer, earliest, member, fresh, waiting, last_conflict};
 ghost use Rattle.branching.specs.LayerLemmas.{layer_lawful};
 
 use crate::order::Order;
+use arrayvec::ArrayVec;
 
 // Whether the group keeps two or more channels.
 fn is_open(domains: &[u64], group: u16) -> bool
     ensures { result ≡ open? domains.now group }
 {
-    if group as usize >= domains.len() {
-        return false;
-    }
-    domains[group as usize].count_ones() >= 2
-}
-
-// The earliest of the groups that keeps two or more channels.
-fn first_open(groups: &[u16], domains: &[u64]) -> Option<u16>
-    ensures { result ≡ earliest groups.now domains.now }
-{
-    for g in groups {
-        if is_open(domains, *g) {
-            return Some(*g);
-        }
-    }
-    None
-}
-
-fn holds(groups: &[u16], group: u16) -> bool
-    ensures { result ≡ member group groups.now }
-{
-    for g in groups {
-        if *g == group {
-            return true;
-        }
-    }
-    false
+    domains
+        .get(group as usize)
+        .is_some_and(|d| d.count_ones() >= 2)
 }
 
 // The groups of the last conflicts, in the order of adding, and one candidate, over an order below.
 #[derive(Drop)]
 pub struct LastConflict<O> {
-    limit: u8,
-    kept: [u16; 8],
-    len: u8,
+    limit: usize,
+    kept: ArrayVec<u16, 8>,
     candidate: Option<u16>,
     below: O,
-    ghost ok: { (limit ≤ 8) × (len + waiting candidate ≤ limit) × (length kept ≡ 8) },
+    ghost ok: { (limit ≤ 8) × (length kept.items + waiting candidate ≤ limit) },
 }
 
 impl<O> LastConflict<O> {
     pub fn new(k: u32, below: O) -> Self
-        ensures { (result.limit ≡ min 8 k) × (result.len ≡ 0) × (result.candidate ≡ None) × (result.below ≡ below) }
+        ensures { (result.limit ≡ min 8 k) × (result.kept.items ≡ []) × (result.candidate ≡ None) × (result.below ≡ below) }
     {
         LastConflict {
-            limit: if k < 8 { k as u8 } else { 8 },
-            kept: [0; 8],
-            len: 0,
+            limit: k.min(8) as usize,
+            kept: ArrayVec::new(),
             candidate: None,
             below,
         }
     }
 
+    // The earliest of the set that keeps two or more channels.
     fn earliest_open(&self, domains: &[u64]) -> Option<u16>
-        ensures { result ≡ earliest (take self.now.len self.now.kept) domains.now }
+        ensures { result ≡ earliest self.now.kept.items domains.now }
     {
-        let len = self.len as usize;
-        first_open(&self.kept[0..len], domains)
+        self.kept.iter().copied().find(|g| is_open(domains, *g))
     }
 
     fn is_fresh(&self, group: u16) -> bool
-        ensures { result ≡ fresh self.now.limit (take self.now.len self.now.kept) self.now.candidate group }
+        ensures { result ≡ fresh self.now.limit self.now.kept.items self.now.candidate group }
     {
-        match self.candidate {
-            Some(_) => false,
-            None => {
-                let len = self.len as usize;
-                self.len < self.limit && !holds(&self.kept[0..len], group)
-            }
-        }
+        self.candidate.is_none() && self.kept.len() < self.limit && !self.kept.contains(&group)
     }
 }
 
 impl<O: Order> Order for LastConflict<O> {
     ghost Held = { Layer O.Order.Held };
 
-    ghost held = { λ s. record { limit = s.limit; kept = take s.len s.kept; candidate = s.candidate; below = O.Order.held s.below } };
+    ghost held = { λ s. record { limit = s.limit; kept = s.kept.items; candidate = s.candidate; below = O.Order.held s.below } };
 
     ghost meaning = { last_conflict O.Order.meaning };
 
@@ -98,16 +67,13 @@ impl<O: Order> Order for LastConflict<O> {
         if let Some(g) = self.earliest_open(domains) {
             return Some(g);
         }
-        let candidate = self.candidate;
-        self.candidate = None;
-        if let Some(g) = candidate {
+        if let Some(g) = self.candidate.take() {
             if is_open(domains, g) {
-                self.kept[self.len as usize] = g;
-                self.len += 1;
+                self.kept.push(g);
                 return Some(g);
             }
         }
-        self.len = 0;
+        self.kept.clear();
         self.below.group(domains)
     }
 

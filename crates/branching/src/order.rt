@@ -19,7 +19,6 @@ pub trait Order {
         ensures after { held self.new ≡ meaning.grouped (held self.old) domains.now };
 
     fn channel(&mut self, domains: &[u64], group: u16) -> Option<u8>
-        requires { length domains.now ≤ 65536 }
         ensures answer { result ≡ meaning.channel (held self.old) domains.now group }
         ensures after { held self.new ≡ meaning.channeled (held self.old) domains.now group };
 
@@ -35,13 +34,9 @@ pub fn pick<O: Order>(order: &mut O, domains: &[u64]) -> Option<(u16, u8)>
     ensures after { O.held order.new ≡ chosen O.meaning (O.held order.old) domains.now }
     ensures good { GoodChoice domains.now result }
 {
-    match order.group(domains) {
-        Some(g) => match order.channel(domains, g) {
-            Some(c) => Some((g, c)),
-            None => None,
-        },
-        None => None,
-    }
+    let g = order.group(domains)?;
+    let c = order.channel(domains, g)?;
+    Some((g, c))
 }
 
 #[derive(Clone, Copy)]
@@ -62,27 +57,18 @@ impl Order for FewestFirst {
         ensures after { ◌≡◌ {A = Unit {0}} tt tt }
         ensures least { FewestAnswer domains.now result }
     {
-        let mut best: Option<u16> = None;
-        for i in 0..domains.len() {
-            let n = domains[i].count_ones();
-            if n >= 2 {
-                let wins = match best {
-                    None => true,
-                    Some(b) => n < domains[b as usize].count_ones(),
-                };
-                if wins {
-                    best = Some(i as u16);
-                }
+        let mut best: Option<(u16, u32)> = None;
+        for (g, d) in domains.iter().enumerate() {
+            let n = d.count_ones();
+            if n >= 2 && best.is_none_or(|(_, least)| n < least) {
+                best = Some((g as u16, n));
             }
         }
-        best
+        best.map(|(g, _)| g)
     }
 
     fn channel(&mut self, domains: &[u64], group: u16) -> Option<u8> {
-        if group as usize >= domains.len() {
-            return None;
-        }
-        let m = domains[group as usize];
+        let m = *domains.get(group as usize)?;
         if m == 0 {
             return None;
         }

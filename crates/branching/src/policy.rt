@@ -47,12 +47,7 @@ impl RestartPolicy for Geometric {
     }
 
     fn advance(&mut self) {
-        let more = self.value + self.value / 2;
-        self.value = if more < 1_000_000_000 {
-            more
-        } else {
-            1_000_000_000
-        };
+        self.value = (self.value + self.value / 2).min(1_000_000_000);
     }
 }
 
@@ -67,13 +62,7 @@ impl Steady {
         ensures { result.value ≡ clamped cutoff }
     {
         Steady {
-            value: if cutoff < 1 {
-                1
-            } else if cutoff < 1000 {
-                cutoff
-            } else {
-                1000
-            },
+            value: cutoff.clamp(1, 1000),
         }
     }
 }

@@ -8,141 +8,101 @@ ghost use Rattle.laws.specs.Jobs.{Jobs, SixCalls};
 use branching::{Order, RestartPolicy};
 
 // The answers of an order of any make are lawful, whatever it holds when the call begins.
-pub fn orders_behave<O: Order>() -> u8
+pub fn orders_behave<O: Order>()
     ensures { (h : O.Order.Held) → IsLawfulOrder (behaviour O.Order.meaning h) }
-{
-    0
-}
+{}
 
 // So are the cutoffs of a policy of any make.
-pub fn policies_behave<P: RestartPolicy>() -> u8
+pub fn policies_behave<P: RestartPolicy>()
     ensures { (h : P.RestartPolicy.Held) → IsLawfulPolicy (cutoffs P.RestartPolicy.meaning h) }
-{
-    0
-}
+{}
 
 // The same sitting comes to one verdict and one search.
-pub fn a_sitting_has_one_end() -> u8
+pub fn a_sitting_has_one_end()
     ensures { SitsOnce }
-{
-    0
-}
+{}
 
 // It is a run of the theory's moves.
-pub fn a_sitting_makes_moves() -> u8
+pub fn a_sitting_makes_moves()
     ensures { SitsReaches }
-{
-    0
-}
+{}
 
 // Where it ends open, it has made just the moves allowed.
-pub fn an_open_sitting_spends_its_allowance() -> u8
+pub fn an_open_sitting_spends_its_allowance()
     ensures { OpenSpends }
-{
-    0
-}
+{}
 
 // The law, whole, of every run of calls.
-pub fn runs_are_lawful() -> u8
+pub fn runs_are_lawful()
     ensures { RunsLawful }
-{
-    0
-}
+{}
 
 // An accepted sitting carries every run on, by the law.
-pub fn a_sitting_carries_on() -> u8
+pub fn a_sitting_carries_on()
     ensures { SittingContinues }
-{
-    0
-}
+{}
 
 // As it stands in a generic contract: an order and a policy of any make carry every run on, from whatever they hold.
-pub fn any_make_carries_on<O: Order, P: RestartPolicy>() -> u8
+pub fn any_make_carries_on<O: Order, P: RestartPolicy>()
     ensures { (h : O.Order.Held) (p : P.RestartPolicy.Held) → AcceptedContinues (behaviour O.Order.meaning h) (cutoffs P.RestartPolicy.meaning p) }
-{
-    0
-}
+{}
 
 // So does an accepted restart.
-pub fn a_restart_carries_on() -> u8
+pub fn a_restart_carries_on()
     ensures { RestartContinues }
-{
-    0
-}
+{}
 
 // The test of a branch passes just where it is a branch.
-pub fn branches_are_tested() -> u8
+pub fn branches_are_tested()
     ensures { BranchTested }
-{
-    0
-}
+{}
 
 // The words of a base are read as its nogoods, and the test of a base passes just where they are nogoods.
-pub fn bases_are_tested() -> u8
+pub fn bases_are_tested()
     ensures { BaseTested }
-{
-    0
-}
+{}
 
 // The first check that fails decides.
-pub fn the_first_fault_decides() -> u8
+pub fn the_first_fault_decides()
     ensures { FirstRefusal }
-{
-    0
-}
+{}
 
 // The place of an empty list is the lowest.
-pub fn the_lowest_empty_list_is_told() -> u8
+pub fn the_lowest_empty_list_is_told()
     ensures { LowestEmpty }
-{
-    0
-}
+{}
 
 // What a run leaves passes the tests.
-pub fn runs_leave_sound_words() -> u8
+pub fn runs_leave_sound_words()
     ensures { Undisturbed }
-{
-    0
-}
+{}
 
 // In every state something remains, the largest family.
-pub fn what_remains_exists() -> u8
+pub fn what_remains_exists()
     ensures { RemainsExists }
-{
-    0
-}
+{}
 
 // Every sitting has an end.
-pub fn a_sitting_has_an_end() -> u8
+pub fn a_sitting_has_an_end()
     ensures { SitsExists }
-{
-    0
-}
+{}
 
 // Small jobs, worked through.
-pub fn jobs_are_worked() -> u8
+pub fn jobs_are_worked()
     ensures { Jobs }
-{
-    0
-}
+{}
 
 // So does a refused call.
-pub fn a_refusal_carries_on() -> u8
+pub fn a_refusal_carries_on()
     ensures { RefusedContinues }
-{
-    0
-}
+{}
 
 // What an accepted call is given stands for a state.
-pub fn accepted_requests_stand() -> u8
+pub fn accepted_requests_stand()
     ensures { AcceptedStands }
-{
-    0
-}
+{}
 
 // There is a run with calls of every kind, which comes to a plan.
-pub fn a_run_of_six_calls() -> u8
+pub fn a_run_of_six_calls()
     ensures { SixCalls }
-{
-    0
-}
+{}

@@ -4,92 +4,66 @@
 ghost use Rattle.model.specs.Statements.{Formed, BranchBounded, StaysShut, Sound, NoneSound, PlanSound, ClosingsBounded, MovesBounded, ReducedExample, RemainsOne, RemainsExists, MeetsUnion, BaseRead};
 
 // On every run the branch has listed assignments, none twice and none of a group taken before, and the base has nogoods.
-pub fn branch_and_base_are_formed() -> u8
+pub fn branch_and_base_are_formed()
     ensures { Formed }
-{
-    0
-}
+{}
 
 // The branch has at most 64 decisions a group.
-pub fn branch_is_bounded() -> u8
+pub fn branch_is_bounded()
     ensures { BranchBounded }
-{
-    0
-}
+{}
 
 // What is shut out stays shut out.
-pub fn shut_out_stays() -> u8
+pub fn shut_out_stays()
     ensures { StaysShut }
-{
-    0
-}
+{}
 
 // Every complete choice that is shut out breaks a rule.
-pub fn shut_out_breaks_a_rule() -> u8
+pub fn shut_out_breaks_a_rule()
     ensures { Sound }
-{
-    0
-}
+{}
 
 // "none" comes only where there is no plan.
-pub fn none_means_no_plan() -> u8
+pub fn none_means_no_plan()
     ensures { NoneSound }
-{
-    0
-}
+{}
 
 // Where every group keeps one channel, these are a plan.
-pub fn plan_is_a_plan() -> u8
+pub fn plan_is_a_plan()
     ensures { PlanSound }
-{
-    0
-}
+{}
 
 // There are fewer closings than choices.
-pub fn closings_are_bounded() -> u8
+pub fn closings_are_bounded()
     ensures { ClosingsBounded }
-{
-    0
-}
+{}
 
 // Moves are bounded by closings.
-pub fn moves_are_bounded() -> u8
+pub fn moves_are_bounded()
     ensures { MovesBounded }
-{
-    0
-}
+{}
 
 // The reduced nogoods of a branch, and their words.
-pub fn nogoods_are_reduced() -> u8
+pub fn nogoods_are_reduced()
     ensures { ReducedExample }
-{
-    0
-}
+{}
 
 // What remains is one family.
-pub fn what_remains_is_one() -> u8
+pub fn what_remains_is_one()
     ensures { RemainsOne }
-{
-    0
-}
+{}
 
 // There is a family that remains.
-pub fn what_remains_exists() -> u8
+pub fn what_remains_exists()
     ensures { RemainsExists }
-{
-    0
-}
+{}
 
 // Two families that meet the conditions do so together.
-pub fn conditions_are_closed_under_union() -> u8
+pub fn conditions_are_closed_under_union()
     ensures { MeetsUnion }
-{
-    0
-}
+{}
 
 // The words of recorded nogoods are read as these nogoods.
-pub fn base_is_read() -> u8
+pub fn base_is_read()
     ensures { BaseRead }
-{
-    0
-}
+{}

@@ -2,3 +2,5 @@ pub mod Alternating
 pub mod Highest
 pub mod Tops
 pub mod AlternatingLemmas
+pub mod Kept
+pub mod Bytes

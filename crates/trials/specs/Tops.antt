@@ -1,11 +1,10 @@
 -- What the highest-first order answers.
-use Rattle.std.specs.Prelude.{◌≡◌, ℕ, zero, suc, ◌+◌, ◌-◌, ◌/◌, ◌%◌, ◌^◌, ◌<◌, ◌≤◌, List, length, Some, None, Option, MatchOption, ◌≢◌, slice_index, refl}
-use Rattle.std.proofs.Common.{sym, ap, subst, ◌∙◌, inl, inr, arith, add-one, pow_mono}
+use Rattle.std.specs.Prelude.{◌≡◌, ℕ, true, false, cond, zero, suc, ◌-◌, ◌/◌, ◌%◌, ◌^◌, ◌<◌, ◌≤◌, List, length, Some, None, Option, MatchOption, ◌≢◌, slice_index, refl}
+use Rattle.std.proofs.Common.{ap, subst, ◌∙◌, inl, inr, arith, pow_mono}
 use Rattle.std.proofs.Math.Nat.{div-eq_of_lt-le}
 use Rattle.std.specs.Int.Count.{count_leading_zeros}
 use Rattle.std.proofs.lemmas.Nat.{leading_top}
-use Rattle.std.proofs.lemmas.List.{get_or_past}
-use Rattle.std.proofs.lemmas.Bool.{cases_eq, cases_lt, cond_both, cond-true, cond-false, leb-true, leb-false, lt-leb, le-leb}
+use Rattle.std.proofs.lemmas.Bool.{cases_eq, cases_lt, cond_both, cond-true, cond-false, leb-true, leb-false}
 use Rattle.rules.specs.Channels.{Has}
 use Rattle.branching.specs.Channels.{Open, count, open?}
 use Rattle.branching.specs.Order.{Lawful, Branches}
@@ -72,11 +71,17 @@ highest_lawful = record {
 }
 
 -- ---- what the code answers
-pub highest_open : (ms : List ℕ) (i : ℕ) (a : Option ℕ) → 2 ≤ count ms i → a ≡ Some i → a ≡ highest_of ms (i + 1)
-highest_open ms i a l e = e ∙ sym (cond-true (open? ms i) (Some i) (highest_of ms i) (le-leb 2 (count ms i) l)) ∙ sym (ap (highest_of ms) (add-one i))
+pub none_highest : (ms : List ℕ) (n : ℕ) → ((j : ℕ) → j < n → open? ms j ≡ false) → highest_of ms n ≡ None
+none_highest ms zero shut = refl
+none_highest ms (suc n) shut = cond-false (open? ms n) (Some n) (highest_of ms n) (shut n (omega arith)) ∙ none_highest ms n (λ j l. shut j (omega arith))
 
-pub highest_shut : (ms : List ℕ) (i : ℕ) (a : Option ℕ) → count ms i < 2 → a ≡ highest_of ms i → a ≡ highest_of ms (i + 1)
-highest_shut ms i a l e = e ∙ sym (cond-false (open? ms i) (Some i) (highest_of ms i) (lt-leb 2 (count ms i) l)) ∙ sym (ap (highest_of ms) (add-one i))
+pub highest_at : (ms : List ℕ) (n g : ℕ) → g < n → open? ms g ≡ true → ((j : ℕ) → g < j → j < n → open? ms j ≡ false) → highest_of ms n ≡ Some g
+highest_at ms zero g l two above = absurd (omega arith)
+highest_at ms (suc n) g l two above =
+    elim (cases_eq n g) [
+      | inl e ↦ ap (λ x. cond (open? ms x) (Some x) (highest_of ms x)) e ∙ cond-true (open? ms g) (Some g) (highest_of ms g) two
+      | inr ne ↦ cond-false (open? ms n) (Some n) (highest_of ms n) (above n (omega arith) (omega arith)) ∙ highest_at ms n g (omega arith) two (λ j k m. above j k (omega arith))
+    ]
 
 pub top_by : (m : ℕ) → (m ≢ 0) → m < 2 ^ 64 → Some (63 - count_leading_zeros 64 m) ≡ top m
 top_by zero p q = absurd (p refl)
@@ -84,6 +89,3 @@ top_by (suc n) p q =
     ap Some (top_unique (suc n) (63 - count_leading_zeros 64 (suc n)) (n - count_leading_zeros (suc n) (suc n))
     (top_at 64 (suc n) (omega arith) q)
     (subst (λ x. Top (suc n) (x - count_leading_zeros (suc n) (suc n))) (omega arith) (top_at (suc n) (suc n) (omega arith) (below_pow (suc n)))))
-
-pub top_past : (ms : List ℕ) (g : ℕ) → length ms ≤ g → None ≡ top (slice_index ms g)
-top_past ms g l = sym (ap top (get_or_past ms g 0 l))

@@ -5,6 +5,7 @@ ghost use Rattle.trials.specs.Alternating.{Cutoffs, alternating};
 ghost use Rattle.trials.specs.AlternatingLemmas.{alternating_lawful};
 
 use branching::RestartPolicy;
+use std::mem;
 
 #[derive(Clone, Copy)]
 pub struct Alternating {
@@ -14,7 +15,7 @@ pub struct Alternating {
 
 impl Alternating {
     // The two cutoffs, the first of which holds until the first restart; 0 counts as 1.
-    pub fn new(first: u32, second: u32) -> Alternating
+    pub fn new(first: u32, second: u32) -> Self
         ensures { (result.now ≡ first) × (result.then ≡ second) }
     {
         Alternating {
@@ -38,8 +39,6 @@ impl RestartPolicy for Alternating {
     }
 
     fn advance(&mut self) {
-        let now = self.now;
-        self.now = self.then;
-        self.then = now;
+        mem::swap(&mut self.now, &mut self.then);
     }
 }

@@ -1,5 +1,5 @@
 // The generator that the jobs of the trials are drawn from: the same jobs on every run.
-ghost use Rattle.std.specs.Prelude.{◌<◌, ◌≤◌};
+ghost use Rattle.std.specs.Prelude.{◌≡◌, ◌<◌, ◌≤◌, length, IfOk};
 
 use crate::job::{Gap, Job, Table};
 use std::alloc::{AllocError, Global};
@@ -30,6 +30,23 @@ impl Draw {
         (self.bits() % u64::from(n)) as u16
     }
 
+    // That many things, drawn one after the other.
+    fn many<T: Drop, F: Fn(&mut Draw) -> T>(
+        &mut self,
+        heap: Global,
+        count: u16,
+        one: F,
+    ) -> Result<Vec<T>, AllocError>
+        requires { F.IsAlwaysCallable one }
+        ensures { IfOk result (λ v. length v.items ≡ count) }
+    {
+        let mut things = Vec::new(heap);
+        for _thing in 0..count {
+            things.push(one(self))?;
+        }
+        Ok(things)
+    }
+
     // Two different groups of n.
     fn pair(&mut self, n: u16) -> (u16, u16)
         requires low { 2 ≤ n }
@@ -46,12 +63,10 @@ impl Draw {
         let lowest = self.below(57);
         let most = (255u16 >> self.below(8)).max(1);
         let same = self.below(2) == 1;
-        let mut lists = Vec::new(heap);
-        for _group in 0..n {
-            let channels = if same { most } else { 1 + self.below(most) };
-            lists.push(u64::from(channels) << lowest)?;
-        }
-        Ok(lists)
+        self.many(heap, n, |draw| {
+            let channels = if same { most } else { 1 + draw.below(most) };
+            u64::from(channels) << lowest
+        })
     }
 
     // Gaps below 2, below 3 or below 4.
@@ -60,13 +75,11 @@ impl Draw {
         requires high { n ≤ 200 }
     {
         let end = 2 + self.below(3);
-        let mut gaps = Vec::new(heap);
-        for _rule in 0..rules {
-            let (first, second) = self.pair(n);
-            let gap = (self.below(end) & 0xff) as u8;
-            gaps.push(Gap { first, second, gap })?;
-        }
-        Ok(gaps)
+        self.many(heap, rules, |draw| {
+            let (first, second) = draw.pair(n);
+            let gap = draw.below(end) as u8;
+            Gap { first, second, gap }
+        })
     }
 
     // Rows that permit about half of all pairs, or about three in four.
@@ -87,17 +100,15 @@ impl Draw {
         requires low { 2 ≤ n }
         requires high { n ≤ 200 }
     {
-        let mut tables = Vec::new(heap);
-        for _rule in 0..rules {
-            let (first, second) = self.pair(n);
-            let rows = self.rows();
-            tables.push(Table {
+        self.many(heap, rules, |draw| {
+            let (first, second) = draw.pair(n);
+            let rows = draw.rows();
+            Table {
                 first,
                 second,
                 rows,
-            })?;
-        }
-        Ok(tables)
+            }
+        })
     }
 
     // A job of 1 to 7 groups, with up to 47 gaps and up to 3 tables.

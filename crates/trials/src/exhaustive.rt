@@ -1,17 +1,16 @@
 // A solver that tries every channel of every group in turn. It shares no code with the search.
-use crate::job::Job;
+use crate::job::{Job, has};
 use std::alloc::{AllocError, Global};
 
-// Whether the channels so far can be gone on with for the groups that are left.
-fn complete(job: &Job, channels: &mut Vec<u8>, left: usize) -> Result<bool, AllocError> {
-    if left == 0 {
+// Whether the channels so far can be gone on with for the groups that are left, with these lists.
+fn complete(job: &Job, channels: &mut Vec<u8>, left: &[u64]) -> Result<bool, AllocError> {
+    let Some((list, later)) = left.split_first() else {
         return Ok(true);
-    }
-    let list = job.lists.get(channels.len()).copied().unwrap_or(0);
+    };
     for channel in 0..64u8 {
-        if (list >> channel) % 2 == 1 {
+        if has(*list, channel) {
             channels.push(channel)?;
-            if job.keeps_rules(channels.as_slice()) && complete(job, channels, left - 1)? {
+            if job.keeps_rules(channels) && complete(job, channels, later)? {
                 return Ok(true);
             }
             let _ = channels.pop();
@@ -22,6 +21,5 @@ fn complete(job: &Job, channels: &mut Vec<u8>, left: usize) -> Result<bool, Allo
 
 // Whether the job has a plan.
 pub fn has_plan(heap: Global, job: &Job) -> Result<bool, AllocError> {
-    let mut channels = Vec::new(heap);
-    complete(job, &mut channels, job.lists.len())
+    complete(job, &mut Vec::new(heap), &job.lists)
 }

@@ -19,20 +19,12 @@ impl Order for HighestFirst {
     ghost lawful = { highest_lawful };
 
     fn group(&mut self, domains: &[u64]) -> Option<u16> {
-        let mut highest: Option<u16> = None;
-        for i in 0..domains.len() {
-            if domains[i].count_ones() >= 2 {
-                highest = Some(i as u16);
-            }
-        }
-        highest
+        let g = domains.iter().rposition(|d| d.count_ones() >= 2)?;
+        Some(g as u16)
     }
 
     fn channel(&mut self, domains: &[u64], group: u16) -> Option<u8> {
-        if group as usize >= domains.len() {
-            return None;
-        }
-        let channels = domains[group as usize];
+        let channels = *domains.get(group as usize)?;
         if channels == 0 {
             return None;
         }

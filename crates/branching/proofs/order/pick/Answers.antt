@@ -1,32 +1,18 @@
-use Rattle.std.proofs.Common.{◌^◌, ◌<◌, get_or, sym, ap, ◌∙◌, subst, arith}
+use Rattle.std.proofs.Common.{◌≡◌, ℕ, ◌^◌, ◌<◌, List, None, Some, get_or, sym, ap, ◌∙◌, subst, arith}
 use Rattle.branching.specs.Channels.{Open}
-use Rattle.branching.specs.Order.{Branches, Remains, choice_at, chosen_at}
+use Rattle.branching.specs.Order.{OrderMeaning, Lawful, Branches, Remains}
 use Rattle.branching.specs.Bits.{counts_member}
 use Rattle.branching.proofs.order.pick.Goals as goal
 
-pub returns-in-None : goal.returns-in-None
-returns-in-None g c =
-    let o = g.O.Order.meaning in
-    let h = g.O.Order.held c.args.order.now in
-    let ms = c.args.domains.now in
-    let e = c.in-None.ensures.answer in
-    record {
-      answer = ap (choice_at o h ms) e;
-      after = c.group.ensures.after ∙ ap (chosen_at o h ms) e;
-      good = subst (Branches ms) (sym e) (g.met.O.Order.lawful.branches h ms);
-    }
-
 -- a group with two channels has one to answer
-pub returns-in-None-channel : goal.returns-in-None-channel
-returns-in-None-channel g c =
+never_absent : {H : Type 0} (o : OrderMeaning H) → Lawful o → (h : H) (ms : List ℕ) (g : ℕ) → get_or ms g 0 < 2 ^ 64 → Some g ≡ o.group h ms → None ≡ o.channel (o.grouped h ms) ms g → ⊥
+never_absent o laws h ms g fits e f =
+    let two : Open ms g = subst (Branches ms) (sym e) (laws.branches h ms) in
+    let some = counts_member 64 (get_or ms g 0) fits (omega arith) in
+    subst (Remains ms g) (sym f) (laws.remains (o.grouped h ms) ms g) some.0 some.1
+
+pub returns-in_err-c-clause-good : goal.returns-in_err-c-clause-good
+returns-in_err-c-clause-good g c =
     let o = g.O.Order.meaning in
-    let h = g.O.Order.held c.args.order.now in
     let ms = c.args.domains.now in
-    let i = c.in-Some.g in
-    let e = c.in-Some.ensures.answer in
-    let f = c.in-None-channel.ensures.answer ∙ ap (λ x. o.channel x ms i) c.group.ensures.after in
-    let two : Open ms i = subst (Branches ms) (sym e) (g.met.O.Order.lawful.branches h ms) in
-    let none = subst (Remains ms i) (sym f) (g.met.O.Order.lawful.remains (o.grouped h ms) ms i) in
-    let fits : get_or ms i 0 < 2 ^ 64 = omega (arith, c.type_inv.domains i) in
-    let some = counts_member 64 (get_or ms i 0) fits (omega arith) in
-    absurd (none some.0 some.1)
+    absurd (never_absent o g.met.O.Order.lawful (g.O.Order.held c.args.order.now) ms c.in_ok-g.g (omega (arith, c.type_inv.domains c.in_ok-g.g)) c.in_ok-g.ensures.answer (c.in_err-c.ensures.answer ∙ ap (λ h. o.channel h ms c.in_ok-g.g) c.group.ensures.after))
