@@ -1,5 +1,5 @@
 -- What an answer has to do with its job.
-use Rattle.std.specs.Prelude.{◌≡◌, ℕ, ◌⊎◌, List, length, take, vec_items, vec_len}
+use Rattle.std.specs.Prelude.{◌≡◌, ℕ, ◌*◌, ◌⊎◌, List, length, take, vec_items, vec_len}
 use Rattle.jobs.specs.Jobs.{after, Accepts}
 use Rattle.jobs.specs.Books.{book_of}
 use Rattle.planner.specs.declared.answer.Answer.{Answer}
@@ -25,6 +25,11 @@ abbrev pub Shaped : ℕ → Verdict → Type 0
 Shaped n (Plan v) = vec_len v ≡ n
 Shaped n None = Unit {0}
 Shaped n Open = Unit {0}
+
+-- the other regions are as large as a search on so many groups and rules asks for
+abbrev pub Roomy : ℕ → ℕ → Memory → Type 0
+Roomy groups rules m =
+    (vec_len m.domains ≡ groups) × (vec_len m.branch ≡ 64 * groups) × (vec_len m.marks ≡ 256) × (vec_len m.ends ≡ 2 * rules) × (vec_len m.settled ≡ groups)
 
 -- the plan and the base are as long as they were
 abbrev pub Kept : Memory → Memory → Type 0

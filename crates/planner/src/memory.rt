@@ -1,6 +1,6 @@
 // The regions that are lent to the calls on a search, the sittings in them, and what these leave of an answer.
-ghost use Rattle.std.specs.Prelude.{◌≡◌, IfOk, IfErr, OnErr, vec_items, vec_len};
-ghost use Rattle.planner.specs.Answers.{Shaped, Kept, Unmoved, GoesOn, reached, counted, told_by};
+ghost use Rattle.std.specs.Prelude.{◌≡◌, ◌+◌, IfOk, IfErr, OnErr, vec_items, vec_len};
+ghost use Rattle.planner.specs.Answers.{Shaped, Roomy, Kept, Unmoved, GoesOn, reached, counted, told_by};
 
 use crate::answer::{Answer, Verdict};
 use crate::error::PlanError;
@@ -30,6 +30,7 @@ impl Memory {
     pub fn new(heap: Global, store: &Store, base_words: u32) -> Result<Memory, PlanError>
         ensures plan { IfOk result (λ m. vec_len m.plan ≡ vec_len store.now.lists) }
         ensures base { IfOk result (λ m. vec_len m.base ≡ base_words) }
+        ensures rest { IfOk result (Roomy (vec_len store.now.lists) (vec_len store.now.gaps + vec_len store.now.tables)) }
     {
         let groups = store.lists.len();
         let end = RuleEnd {
