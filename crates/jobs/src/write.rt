@@ -123,7 +123,7 @@ fn vet_item(src: &[u8], at: usize, item: Item) -> Result<(), WriteFault>
 fn vet(src: &[u8], items: &[Item]) -> Result<(), WriteFault>
     ensures { MatchResult result (λ _. Flawless src.now items.now) (λ f. Unwritten src.now items.now f) }
 {
-    if items.len() > 65535 {
+    if items.len() > u16::MAX as usize {
         return Err(WriteFault::TooMany);
     }
     for (k, x) in items.iter().enumerate() {
