@@ -1,31 +1,28 @@
 -- Channels of a set: one digit at a time. Assumes nothing.
 use Rattle.std.specs.Prelude.{◌≡◌, ℕ, zero, suc, ◌+◌, ◌/◌, ◌%◌, ◌^◌, ◌<◌, ◌≤◌, refl}
-use Rattle.std.proofs.Common.{sym, ap, subst, ◌∙◌, inl, inr, div-one, pow-suc, arith}
-use Rattle.std.proofs.Math.Nat.{zero-div, div-div-eq-div-mul, pow-succ'}
+use Rattle.std.proofs.Common.{sym, ap, ◌∙◌, inl, inr, pow-suc, arith}
+use Rattle.std.proofs.lemmas.Nat.Bits.{bit_at_lowest, bit_at-suc, bit_at-zero, bit_at_above}
 use Rattle.std.specs.Int.Count.{ones, ones_in, ones_step, count_trailing_zeros, under}
-use Rattle.std.proofs.lemmas.Bool.{cases_order}
+use Rattle.std.proofs.lemmas.Bool.{cases_lt, cases_order}
 use Rattle.rules.specs.Channels.{Has}
 use Rattle.branching.specs.Channels.{Lowest}
 
 -- the lowest digit, and the others
 pub has_zero : (m : ℕ) → m % 2 ≡ 1 → Has m 0
-has_zero m h = ap (λ (x : ℕ). x % 2) (div-one m) ∙ h
+has_zero m h = bit_at_lowest m ∙ h
 
 pub zero_has : (m : ℕ) → Has m 0 → m % 2 ≡ 1
-zero_has m h = sym (ap (λ (x : ℕ). x % 2) (div-one m)) ∙ h
-
-pub half_digit : (m c : ℕ) → m / 2 ^ suc c ≡ m / 2 / 2 ^ c
-half_digit m c = ap (λ (x : ℕ). m / x) (pow-succ' 2 c) ∙ sym (div-div-eq-div-mul m 2 (2 ^ c))
+zero_has m h = sym (bit_at_lowest m) ∙ h
 
 pub has_suc : (m c : ℕ) → Has (m / 2) c → Has m (suc c)
-has_suc m c h = ap (λ (x : ℕ). x % 2) (half_digit m c) ∙ h
+has_suc m c h = bit_at-suc m c ∙ h
 
 pub suc_has : (m c : ℕ) → Has m (suc c) → Has (m / 2) c
-suc_has m c h = sym (ap (λ (x : ℕ). x % 2) (half_digit m c)) ∙ h
+suc_has m c h = sym (bit_at-suc m c) ∙ h
 
 -- the empty set
 pub none_has : (c : ℕ) → Has 0 c → ⊥
-none_has c h = let e : 0 / 2 ^ c ≡ 0 = zero-div (2 ^ c) in omega (arith, e)
+none_has c h = let e = sym (bit_at-zero c) ∙ h in omega (arith, e)
 
 pub ones_zero : ones 0 ≡ 0
 unfolding ones
@@ -85,9 +82,7 @@ counts_two (suc d) m q h = go (m % 2) refl (λ l. counts_two d (m / 2) (omega ar
 
 -- a channel of a word of d bits is below d
 pub has_below : (d m c : ℕ) → m < 2 ^ d → Has m c → c < d
-has_below zero m c q h = absurd (let e : m ≡ 0 = omega arith in none_has c (subst (λ (x : ℕ). Has x c) e h))
-has_below (suc d) m zero q h = omega arith
-has_below (suc d) m (suc c) q h = let r = has_below d (m / 2) c (omega arith) (suc_has m c h) in omega arith
+has_below d m c q h = elim (cases_lt c d) [ inl l ↦ l | inr l ↦ absurd (let e = sym (bit_at_above m d c q l) ∙ h in omega (arith, e)) ]
 
 -- the count over d digits, which computes at wide numerals where `ones` does not
 pub ones_in_lem : (d m : ℕ) → m < 2 ^ d → ones_in d m ≡ ones m

@@ -1,8 +1,9 @@
 -- What remains, as masks.
-use Rattle.std.proofs.Common.{◌≡◌, ℕ, zero, suc, ◌+◌, ◌*◌, ◌/◌, ◌%◌, ◌<◌, ◌≤◌, Bool, true, false, cond, eqb, List, [], ◌∷◌, length, get_or, sym, refl, ap, ◌∙◌, subst, inl, inr, not-suc-le-zero, arith}
+use Rattle.std.proofs.Common.{◌≡◌, ℕ, zero, suc, ◌+◌, ◌*◌, ◌/◌, ◌<◌, ◌≤◌, Bool, true, false, cond, eqb, List, [], ◌∷◌, length, get_or, sym, refl, ap, ◌∙◌, subst, inl, inr, not-suc-le-zero, arith}
 use mathlib.Core.Path.{fun_ext}
 use Rattle.std.proofs.lemmas.Bool.{cases_lt}
-use Rattle.branching.specs.Bits.{has_zero, zero_has, half_digit, none_has}
+use Rattle.std.proofs.lemmas.Nat.Bits.{bit_at-suc}
+use Rattle.branching.specs.Bits.{has_zero, zero_has, none_has}
 use Rattle.rules.specs.Channels.{has}
 use Rattle.rules.specs.Plans.{Listed}
 use Rattle.rules.specs.Meanings.{Meaning, Lawful}
@@ -19,7 +20,7 @@ bits p zero = 0
 bits p (suc d) = cond (p 0) 1 0 + 2 * bits (λ c. p (suc c)) d
 
 has_half : (m c : ℕ) → has m (suc c) ≡ has (m / 2) c
-has_half m c = ap (λ (x : ℕ). eqb (x % 2) 1) (half_digit m c)
+has_half m c = ap (λ (x : ℕ). eqb x 1) (bit_at-suc m c)
 
 low_half : (b : Bool) (r : ℕ) → (cond b 1 0 + 2 * r) / 2 ≡ r
 low_half true r = omega arith
