@@ -5,6 +5,8 @@ pub mod across;
 pub mod bench;
 pub mod bits;
 pub mod decision;
+pub mod desk;
+pub mod ends;
 pub mod filter;
 pub mod line;
 pub mod nogood;

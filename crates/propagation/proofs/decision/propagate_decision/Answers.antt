@@ -1,4 +1,4 @@
-use Rattle.std.proofs.Common.{◌≡◌, ℕ, ◌*◌, length, ap, arith}
+use Rattle.std.proofs.Common.{◌≡◌, ℕ, ◌*◌, ◌≤◌, length, ap, arith, rules}
 use Rattle.propagation.proofs.Fronts.{past_part, past_part_at}
 use Rattle.propagation.proofs.decision.propagate_decision.Goals as goal
 
@@ -9,11 +9,10 @@ returns-clause-beyond g c =
     let m = 2 * (g.B.RuleBook.meaning c.args.book.now).count in
     let same : k ≡ m = ap (λ (x : ℕ). 2 * x) c.count.ensures in
     let b = c.args.bench.now in
-    let b' = c.filter_decision.new in
     let r = c.requires.roomy in
     record {
-      domains = past_part b.domains.now b'.domains n r.domains c.filter_decision.auto.domains;
-      marks = past_part b.marks.now b'.marks 256 r.marks c.filter_decision.auto.marks;
-      ends = past_part_at b.ends.now b'.ends k m same (omega (arith, r.ends, same)) c.filter_decision.auto.ends;
-      settled = past_part b.settled.now b'.settled n r.settled c.filter_decision.auto.settled;
+      domains = past_part b.domains.now c.write.new.to n r.domains c.write.auto.to;
+      marks = search (rules, past_part b.marks.now);
+      ends = let h : k ≤ length b.ends.now = omega (arith, r.ends, same) in search (rules, past_part_at b.ends.now);
+      settled = search (rules, past_part b.settled.now);
     }
