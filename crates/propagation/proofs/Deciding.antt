@@ -32,12 +32,6 @@ agrees_calm m base ms q a i s _ = a.supported i s
 pub agrees_good : (m : Meaning) (base : List (List ℕ)) (ms : List ℕ) (s : List Assignment) → Agrees m base (family ms) → AllByRecursion (Good ms s) base
 agrees_good m base ms s a = All-weaker (Heeds (family ms)) (Good ms s) (λ n h _. h) base a.heeds
 
--- where every group keeps something no set is empty
-pub alive_some : (lists ms : List ℕ) → length ms ≡ length lists → Alive lists (family ms) → (g : ℕ) → g < length ms → get_or ms g 0 ≡ 0 → ⊥
-alive_some lists ms size alive g l z =
-    let t = alive g (omega arith) in
-    both_ways (has 0 t.0) (has_none t.0) (subst (λ (x : ℕ). has x t.0 ≡ true) z t.1)
-
 module _ (lists : List ℕ) (m : Meaning) (base : List (List ℕ)) (ws : List ℕ) (fits : (i : ℕ) → get_or lists i 0 < 2 ^ 64)
     (ms : List ℕ) (before : Lives lists m base (branch_of ws (length ws - 1)) ms)
     (some : 0 < length ws) (low : get_or ws (length ws - 1) 0 < 65536) (r : ℕ) (here : get_or ws (length ws - 1) 0 / 64 < length ms)

@@ -1,5 +1,6 @@
 -- From what the work gives to what remains. Assumes nothing.
 use Rattle.std.proofs.Common.{◌≡◌, ℕ, ◌/◌, ◌%◌, ◌^◌, ◌<◌, Bool, true, false, List, [], length, get_or, sym, ap, ◌∙◌, subst, inl, inr, arith}
+use Rattle.std.specs.Prelude.{Result, Ok, Err, OnOk, OnErr}
 use Rattle.std.proofs.lemmas.Bool.{both_ways, cases_lt, false≢true}
 use Rattle.std.proofs.lemmas.List.{get_or_past}
 use Rattle.rules.specs.Meanings.{Meaning, Lawful}
@@ -7,17 +8,17 @@ use Rattle.rules.specs.Channels.{has}
 use Rattle.rules.specs.Plans.{Listed}
 use Rattle.model.specs.Decisions.{Decision}
 use Rattle.model.specs.Words.{decision, branch_of}
-use Rattle.model.specs.Remains.{Family, family, Obeys, Meets}
+use Rattle.model.specs.Remains.{Family, family, Obeys, Meets, Alive}
 use Rattle.model.proofs.Tests.{refuted}
 use Rattle.model.proofs.Largest.{filtered, filtered_remains}
 use Rattle.propagation.specs.declared.records.RuleEnd.{RuleEnd}
 use Rattle.propagation.specs.declared.records.Assignment.{Assignment}
 use Rattle.propagation.specs.Waits.{waits, at_end, Line}
 use Rattle.propagation.specs.Supports.{Inside, Supported}
-use Rattle.propagation.specs.Desks.{Emptied, Settled}
+use Rattle.propagation.specs.Settling.{Emptied, Settled}
 use Rattle.propagation.specs.Calms.{Agrees, Calm}
 use Rattle.propagation.specs.Filtered.{Lives, Doomed, Dies}
-use Rattle.propagation.proofs.Digits.{has_none, has_below, has_some}
+use Rattle.propagation.proofs.Digits.{has_none, has_below}
 use Rattle.propagation.proofs.Starting.{branch_all, all_branch}
 use Rattle.propagation.proofs.Revising.{none_supported}
 
@@ -85,9 +86,9 @@ module _ (lists : List ℕ) (m : Meaning) (base : List (List ℕ)) (ws : List �
         both_ways (has 0 c) (has_none c) (subst (λ (x : ℕ). has x c ≡ true) t.2 (all_inside ms carries k mt t.0 c e))),
   )
 
-  pub lives : (ms : List ℕ) → length ms ≡ length lists → ((i : ℕ) → get_or ms i 0 < 2 ^ 64) → Carries ms → Inside (family ms) (family lists)
-      → ((i : ℕ) → i < length ws → Obeys (family ms) (decision (get_or ws i 0))) → Agrees m base (family ms) → ((g : ℕ) → g < length ms → get_or ms g 0 ≡ 0 → ⊥) → Lives lists m base branch ms
-  lives ms size small carries ins obeys agrees alive = record {
+  pub lives : (ms : List ℕ) → length ms ≡ length lists → Carries ms → Inside (family ms) (family lists)
+      → ((i : ℕ) → i < length ws → Obeys (family ms) (decision (get_or ws i 0))) → Agrees m base (family ms) → Alive ms (family ms) → Lives lists m base branch ms
+  lives ms size carries ins obeys agrees alive = record {
     remains = record {
       meets = record {
         within = λ g c e. listed g c (ins g c e);
@@ -98,7 +99,7 @@ module _ (lists : List ℕ) (m : Meaning) (base : List (List ℕ)) (ws : List �
       };
       largest = all_inside ms carries;
     };
-    alive = λ g l. has_some (get_or ms g 0) (small g) (alive g (omega arith));
+    alive = λ g l. alive g (omega arith);
   }
 
 -- where some group keeps nothing in any family, it keeps nothing in the largest
@@ -106,3 +107,13 @@ pub doomed_dies : (lists : List ℕ) (m : Meaning) → Lawful m → (base : List
 doomed_dies lists m law base branch d =
     let r = filtered_remains lists m base branch law in
     (filtered lists m base branch, r, (d.0, d.1, d.2 (filtered lists m base branch) r.meets))
+
+-- a fact under an error, where it holds anyway
+pub on_err : {T E P : Type 0} (r : Result T E) → P → OnErr r P
+on_err (Ok x) p = tt
+on_err (Err e) p = p
+
+-- what three facts on success give together
+pub on_ok_three : {T E P Q R S : Type 0} (r : Result T E) → (P → Q → R → S) → OnOk r P → OnOk r Q → OnOk r R → OnOk r S
+on_ok_three (Ok x) f p q s = f p q s
+on_ok_three (Err e) f p q s = tt

@@ -3,7 +3,7 @@ use Rattle.std.proofs.Common.{◌≡◌, ℕ, suc, ◌+◌, ◌*◌, ◌<◌, �
 use Rattle.std.proofs.lemmas.Bool.{eqb-true, eq-eqb, ne_eqb, cases_eq, or_cases, or_left, or_right, or_parts, or_from}
 use Rattle.std.proofs.lemmas.List.{length_push}
 use Rattle.propagation.specs.declared.records.Assignment.{Assignment}
-use Rattle.propagation.specs.Desks.{noted, stands, Alone}
+use Rattle.propagation.specs.Settling.{noted, stands, Alone}
 use Rattle.propagation.proofs.Marks.{tally, tally_most, tally_more, tally_none}
 
 shift : (x y z : Bool) → (x || (y || z)) ≡ ((x || y) || z)

@@ -1,7 +1,9 @@
 -- Nogoods heeded. Assumes nothing.
+use Rattle.std.specs.Bool.{then_some}
+use Rattle.std.specs.Prelude.{Bool, Decides, MatchOption, slice_get, [], ◌∷◌}
 use Rattle.std.proofs.Common.{◌≡◌, ℕ, ◌/◌, ◌%◌, ◌^◌, ◌<◌, true, false, ◌≢◌, ◌⊎◌, List, length, get_or, set, sym, refl, ap, ◌∙◌, subst, inl, inr, arith}
 use Rattle.std.specs.List.{AllByRecursion}
-use Rattle.std.proofs.lemmas.Bool.{cases_eq, both_ways}
+use Rattle.std.proofs.lemmas.Bool.{cases_eq, both_ways, false≢true}
 use Rattle.std.proofs.lemmas.List.{length-set, get_or-set_same}
 use Rattle.std.proofs.ByRecursion.{All-get_or, All-from_get_or, All-weaker}
 use Rattle.rules.specs.Channels.{has}
@@ -9,7 +11,7 @@ use Rattle.model.specs.Masks.{grp}
 use Rattle.model.specs.Remains.{Family, family, Only, Gone, Heeds}
 use Rattle.model.proofs.Tests.{refuted}
 use Rattle.propagation.specs.Supports.{Inside}
-use Rattle.propagation.specs.Desks.{Emptied}
+use Rattle.propagation.specs.Settling.{Emptied}
 use Rattle.propagation.specs.Bases.{Forced}
 use Rattle.propagation.proofs.Digits.{Cut, has_none, has_some, cut_stays, cut_inside, cut_other}
 use Rattle.propagation.proofs.Steps.{at_same, at_other}
@@ -82,3 +84,15 @@ forced_one k n w i l e wide f j m h = elim (cases_eq w (get_or n j 0)) [
 -- where all are, each is forced
 pub all_forced : (k : Family) (n : List ℕ) (w : ℕ) → ((i : ℕ) → i < length n → Only k (get_or n i 0)) → Forced k n w
 all_forced k n w h = All-from_get_or (λ v. v ≢ w → Only k v) n 0 (λ i l _. h i l)
+
+-- the answer where the first that is not the only one of its group is w, by whether its others are settled
+pub forced_then : (k : Family) (n : List ℕ) (w i : ℕ) → i < length n → w ≡ get_or n i 0 → (Only k w → ⊥) → (b : Bool) → Decides b (Forced k n w)
+    → MatchOption (then_some b w) ((j : ℕ) → j < length n → Forced k n (get_or n j 0) → ⊥) (λ v. (j : ℕ) × (j < length n) × (v ≡ get_or n j 0) × Forced k n v)
+forced_then k n w i l e wide true d = (i, l, e, d.0 refl)
+forced_then k n w i l e wide false d = forced_one k n w i l e wide (λ f. false≢true (d.1 f))
+
+-- the answer where each is the only one of its group
+pub forced_first : (k : Family) (n : List ℕ) → ((i : ℕ) → i < length n → Only k (get_or n i 0))
+    → MatchOption (slice_get n 0) ((j : ℕ) → j < length n → Forced k n (get_or n j 0) → ⊥) (λ v. (j : ℕ) × (j < length n) × (v ≡ get_or n j 0) × Forced k n v)
+forced_first k [] h = λ j l. absurd (omega arith)
+forced_first k (x ∷ n) h = (0, omega arith, refl, all_forced k (x ∷ n) x h)

@@ -6,13 +6,16 @@ use Rattle.std.proofs.lemmas.List.{get_or-set_same, get_or-set_other, length-set
 use Rattle.rules.specs.Meanings.{Meaning, Lawful, Apart}
 use Rattle.rules.specs.Channels.{has}
 use Rattle.model.specs.Masks.{grp, chan}
-use Rattle.model.specs.Remains.{family, Only}
+use Rattle.model.specs.Remains.{family, Only, Alive}
 use Rattle.model.proofs.Tests.{refuted}
 use Rattle.propagation.specs.declared.records.RuleEnd.{RuleEnd}
 use Rattle.propagation.specs.declared.records.Assignment.{Assignment}
 use Rattle.propagation.specs.Waits.{waits, at_end}
+use Rattle.propagation.specs.Waiting.{queued}
 use Rattle.propagation.specs.Supports.{Supported, Inside, Still, Across, near, far}
-use Rattle.propagation.specs.Desks.{assignment, noted, stands, Narrow, Settled, Desk, Step, Noting}
+use Rattle.propagation.specs.Settling.{assignment, noted, stands, Narrow, Settled, Noting}
+use Rattle.propagation.specs.declared.desk.Desk.{Desk}
+use Rattle.propagation.specs.Desks.{SameDesk, Step}
 use Rattle.propagation.proofs.Digits.{has_more}
 use Rattle.propagation.proofs.Groups.{stands_push, noted_push, alone_push}
 
@@ -103,13 +106,13 @@ module _ (ms : List ℕ) (g k : ℕ) (here : g < length ms) where
       pub shrink_falls : sum (set ms g k) < sum ms
       shrink_falls = let e = sum_by-set (λ x. x) ms g k 0 here in omega arith
 
-pub set_alive : (ms : List ℕ) (g k : ℕ) → g < length ms → (k ≡ 0 → ⊥) → ((h : ℕ) → h < length ms → get_or ms h 0 ≡ 0 → ⊥) → (h : ℕ) → h < length (set ms g k) → get_or (set ms g k) h 0 ≡ 0 → ⊥
-set_alive ms g k here n f h l e = elim (cases_eq h g) [
-  | inl q ↦ n (sym (get_or-set_same ms g k 0 here) ∙ subst (λ (x : ℕ). get_or (set ms g k) x 0 ≡ 0) q e)
-  | inr d ↦ f h (let z = length-set ms g k in omega arith) (sym (get_or-set_other ms g h k 0 d) ∙ e)
+pub set_alive : (ms : List ℕ) (g k : ℕ) → g < length ms → (c : ℕ) × (has k c ≡ true) → Alive ms (family ms) → Alive (set ms g k) (family (set ms g k))
+set_alive ms g k here some alive h l = elim (cases_eq h g) [
+  | inl q ↦ subst (λ (x : ℕ). (c : ℕ) × (family (set ms g k) x c ≡ true)) (sym q) (some.0, at_same ms g k here some.0 ∙ some.1)
+  | inr d ↦ (let t = alive h (let z = length-set ms g k in omega arith) in (t.0, at_other ms g k here h t.0 d ∙ t.1))
 ]
 
-pub step_same : (m : Meaning) (d : Desk) → Step m d d
+pub step_same : (m : Meaning) {B : Type 0} (d : Desk B) → Step m d d
 step_same m d = record {
   inside = λ g c e. e;
   ends = λ i s h. (h, λ u. u);
@@ -117,7 +120,7 @@ step_same m d = record {
   falls = inl (refl, refl, refl);
 }
 
-pub step_then : (m : Meaning) (d e f : Desk) → Step m d e → Step m e f → Step m d f
+pub step_then : (m : Meaning) {B : Type 0} (d e f : Desk B) → Step m d e → Step m e f → Step m d f
 step_then m d e f s t = record {
   inside = λ g c h. s.inside g c (t.inside g c h);
   ends = λ i b h. let u = t.ends i b h in let v = s.ends i b u.0 in (v.0, λ w. u.1 (v.1 w));
@@ -125,10 +128,22 @@ step_then m d e f s t = record {
   falls = both s.falls t.falls;
 }
   where
-    both : ((e.masks ≡ d.masks) × (e.ends ≡ d.ends) × (e.assignments ≡ d.assignments)) ⊎ (sum e.masks < sum d.masks)
-        → ((f.masks ≡ e.masks) × (f.ends ≡ e.ends) × (f.assignments ≡ e.assignments)) ⊎ (sum f.masks < sum e.masks)
-        → ((f.masks ≡ d.masks) × (f.ends ≡ d.ends) × (f.assignments ≡ d.assignments)) ⊎ (sum f.masks < sum d.masks)
+    both : ((e.domains.now ≡ d.domains.now) × ((queued e.line.ends) ≡ (queued d.line.ends)) × ((queued e.settled) ≡ (queued d.settled))) ⊎ (sum e.domains.now < sum d.domains.now)
+        → ((f.domains.now ≡ e.domains.now) × ((queued f.line.ends) ≡ (queued e.line.ends)) × ((queued f.settled) ≡ (queued e.settled))) ⊎ (sum f.domains.now < sum e.domains.now)
+        → ((f.domains.now ≡ d.domains.now) × ((queued f.line.ends) ≡ (queued d.line.ends)) × ((queued f.settled) ≡ (queued d.settled))) ⊎ (sum f.domains.now < sum d.domains.now)
     both (inl p) (inl q) = inl (q.0 ∙ p.0, q.1 ∙ p.1, q.2 ∙ p.2)
     both (inl p) (inr q) = inr (let z = ap sum p.0 in omega arith)
     both (inr p) (inl q) = inr (let z = ap sum q.0 in omega arith)
     both (inr p) (inr q) = inr (omega arith)
+
+pub same_then : {B : Type 0} (d e f : Desk B) → SameDesk d e → SameDesk e f → SameDesk d f
+same_then d e f s t = record {
+  book = t.book ∙ s.book;
+  wires = t.wires ∙ s.wires;
+  base = t.base ∙ s.base;
+  domains = t.domains ∙ s.domains;
+  groups = t.groups ∙ s.groups;
+  line = record { places = t.line.places ∙ s.line.places; marks = t.line.marks ∙ s.line.marks; size = t.line.size ∙ s.line.size; rules = t.line.rules ∙ s.line.rules };
+  settled = t.settled ∙ s.settled;
+  slots = t.slots ∙ s.slots;
+}

@@ -4,13 +4,16 @@ use Rattle.std.specs.List.{AllByRecursion}
 use Rattle.std.proofs.ByRecursion.{All-weaker}
 use Rattle.std.proofs.lemmas.Bool.{cases_eq, or_right, or_from, ne_eqb}
 use Rattle.rules.specs.Meanings.{Meaning}
-use Rattle.model.specs.Remains.{family, Heeds}
+use Rattle.model.specs.Remains.{Family, family, Heeds}
 use Rattle.model.proofs.Tests.{of_all}
 use Rattle.propagation.specs.declared.records.RuleEnd.{RuleEnd}
 use Rattle.propagation.specs.declared.records.Assignment.{Assignment}
 use Rattle.propagation.specs.Waits.{at_end, place, waits}
+use Rattle.propagation.specs.Waiting.{queued}
 use Rattle.propagation.specs.Supports.{Supported}
-use Rattle.propagation.specs.Desks.{noted, Settled, Desk, Held, Step}
+use Rattle.propagation.specs.Settling.{noted, Settled}
+use Rattle.propagation.specs.declared.desk.Desk.{Desk}
+use Rattle.propagation.specs.Desks.{Held, Step}
 use Rattle.propagation.specs.Bases.{Good, Spared}
 use Rattle.propagation.specs.Calms.{Calm, Agrees, weight}
 use Rattle.propagation.proofs.Marks.{line_few}
@@ -26,10 +29,10 @@ settled_rest ms f s st = record {
 }
 
 -- what waits is bounded
-waiting_few : (m : Meaning) (d : Desk) → Held m d → length d.ends + length d.assignments ≤ 2 * m.count + m.groups
+waiting_few : (m : Meaning) {B : Type 0} (d : Desk B) → Held m d → length (queued d.line.ends) + length (queued d.settled) ≤ 2 * m.count + m.groups
 waiting_few m d h =
-    let a = line_few d.ends (2 * m.count) h.line.once h.line.below in
-    let b = stands_few d.assignments (length d.masks) h.settled.alone h.settled.below in
+    let a = line_few (queued d.line.ends) (2 * m.count) d.line.line.once (λ e w. let k = d.line.line.below e w in omega (arith, h.rules)) in
+    let b = stands_few (queued d.settled) (length d.domains.now) h.settled.alone h.settled.below in
     omega (arith, a, b, h.groups)
 
 heavier : (a b k p q : ℕ) → a < b → p < k → a * k + p < b * k + q
@@ -39,22 +42,22 @@ heavier a b k p q l h =
     let f : (a + 1) * k ≤ b * k = mul-le-mul_right k u in
     omega arith
 
-pub weight_falls : (m : Meaning) (d e f : Desk) → Held m f → Step m e f → e.masks ≡ d.masks → length e.ends + length e.assignments < length d.ends + length d.assignments → weight m f < weight m d
+pub weight_falls : (m : Meaning) {B : Type 0} (d e f : Desk B) → Held m f → Step m e f → e.domains.now ≡ d.domains.now → length (queued e.line.ends) + length (queued e.settled) < length (queued d.line.ends) + length (queued d.settled) → weight m f < weight m d
 weight_falls m d e f h s q l = go s.falls
   where
-    go : ((f.masks ≡ e.masks) × (f.ends ≡ e.ends) × (f.assignments ≡ e.assignments)) ⊎ (sum f.masks < sum e.masks) → weight m f < weight m d
+    go : ((f.domains.now ≡ e.domains.now) × ((queued f.line.ends) ≡ (queued e.line.ends)) × ((queued f.settled) ≡ (queued e.settled))) ⊎ (sum f.domains.now < sum e.domains.now) → weight m f < weight m d
     go (inl p) =
-        let x : sum f.masks * (2 * m.count + m.groups + 1) ≡ sum d.masks * (2 * m.count + m.groups + 1) = ap (λ (y : List ℕ). sum y * (2 * m.count + m.groups + 1)) (p.0 ∙ q) in
+        let x : sum f.domains.now * (2 * m.count + m.groups + 1) ≡ sum d.domains.now * (2 * m.count + m.groups + 1) = ap (λ (y : List ℕ). sum y * (2 * m.count + m.groups + 1)) (p.0 ∙ q) in
         let y = ap length p.1 in
         let z = ap length p.2 in
         omega arith
     go (inr p) =
         let w = waiting_few m f h in
         let z = ap sum q in
-        heavier (sum f.masks) (sum d.masks) (2 * m.count + m.groups + 1) (length f.ends + length f.assignments) (length d.ends + length d.assignments) (omega arith) (omega arith)
+        heavier (sum f.domains.now) (sum d.domains.now) (2 * m.count + m.groups + 1) (length (queued f.line.ends) + length (queued f.settled)) (length (queued d.line.ends) + length (queued d.settled)) (omega arith) (omega arith)
 
 -- calm after a step
-pub calm_step : (m : Meaning) (d e : Desk) → Step m d e → Calm m d.masks d.ends → Calm m e.masks e.ends
+pub calm_step : (m : Meaning) {B : Type 0} (d e : Desk B) → Step m d e → Calm m d.domains.now (queued d.line.ends) → Calm m e.domains.now (queued e.line.ends)
 calm_step m d e s c i b h = let u = s.ends i b h in u.1 (c i b u.0)
 
 -- the end that a number stands for
@@ -65,13 +68,13 @@ same_end i j true false h = absurd (omega arith)
 same_end i j false true h = absurd (omega arith)
 
 -- calm after the first end was looked at, and a step
-pub calm_looked : (m : Meaning) (d e : Desk) (r : RuleEnd) → Step m d e → Calm m d.masks (r ∷ d.ends) → Supported m (family e.masks) r.rule r.second → Calm m e.masks e.ends
+pub calm_looked : (m : Meaning) {B : Type 0} (d e : Desk B) (r : RuleEnd) → Step m d e → Calm m d.domains.now (r ∷ (queued d.line.ends)) → Supported m (family e.domains.now) r.rule r.second → Calm m e.domains.now (queued e.line.ends)
 calm_looked m d e r s c done i b h = go (cases_eq (at_end i b) (place r))
   where
-    go : (at_end i b ≡ place r) ⊎ (at_end i b ≡ place r → ⊥) → Supported m (family e.masks) i b
+    go : (at_end i b ≡ place r) ⊎ (at_end i b ≡ place r → ⊥) → Supported m (family e.domains.now) i b
     go (inl q) =
         let t = same_end i r.rule b r.second q in
-        subst (λ (x : Bool). Supported m (family e.masks) i x) (sym t.1) (subst (λ (x : ℕ). Supported m (family e.masks) x r.second) (sym t.0) done)
+        subst (λ (x : Bool). Supported m (family e.domains.now) i x) (sym t.1) (subst (λ (x : ℕ). Supported m (family e.domains.now) x r.second) (sym t.0) done)
     go (inr n) = let u = s.ends i b h in u.1 (c i b (or_from _ _ (ne_eqb (place r) (at_end i b) (λ q. n (sym q))) u.0))
 
 -- where nothing waits
@@ -94,3 +97,7 @@ spare ms p s f v e ev base a = All-weaker (Good ms p) (λ n. Spared (Some v) n �
 
 pub spare_none : (ms : List ℕ) (s : List Assignment) (base : List (List ℕ)) → AllByRecursion (λ n. Spared None n → Good ms s n) base
 spare_none ms s base = of_all (λ n. Spared None n → Good ms s n) (λ n h. absurd h) base
+
+-- a book and a base by other names
+pub agrees_same : (m m' : Meaning) (b b' : List (List ℕ)) (k : Family) → m' ≡ m → b' ≡ b → Agrees m b k → Agrees m' b' k
+agrees_same m m' b b' k e f a = subst (λ (x : Meaning). Agrees x b' k) (sym e) (subst (λ (x : List (List ℕ)). Agrees m x k) (sym f) a)

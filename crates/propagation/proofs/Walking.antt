@@ -1,36 +1,35 @@
 -- The base part by part. Assumes nothing.
-use Rattle.std.proofs.Common.{◌≡◌, ℕ, ◌+◌, ◌-◌, ◌/◌, ◌<◌, ◌≤◌, false, ◌≢◌, List, [], ◌∷◌, ◌++◌, length, get_or, take, drop, sym, ap, ◌∙◌, subst, arith}
+use Rattle.std.proofs.Common.{◌≡◌, ℕ, ◌+◌, ◌-◌, ◌/◌, ◌<◌, ◌≤◌, false, ◌≢◌, List, [], ◌∷◌, ◌++◌, length, get_or, take, drop, min, inl, inr, sym, ap, ◌∙◌, subst, arith}
 use Rattle.std.specs.List.{AllByRecursion}
-use Rattle.std.proofs.lemmas.List.{length-drop, drop-drop, drop_more, take_all, drop_all, take_rest, append_assoc}
+use Rattle.std.proofs.lemmas.List.{take_all, drop_all, append_assoc}
 use Rattle.std.proofs.ByRecursion.{All-weaker}
 use Rattle.rules.specs.Meanings.{Meaning}
 use Rattle.model.specs.Remains.{family, Only, Gone}
 use Rattle.model.proofs.Tests.{refuted}
-use Rattle.std.proofs.lemmas.Bool.{both_ways}
-use Rattle.propagation.specs.Desks.{noted, Desk, Step}
+use Rattle.std.proofs.lemmas.Bool.{both_ways, cases_lt}
+use Rattle.propagation.specs.Waiting.{queued}
+use Rattle.propagation.specs.Settling.{noted}
+use Rattle.propagation.specs.declared.desk.Desk.{Desk}
+use Rattle.propagation.specs.Desks.{Step}
 use Rattle.model.specs.Words.{base_of}
 use Rattle.model.proofs.Bases.{base_cons}
 use Rattle.propagation.specs.Bases.{Good}
 
-base_at : (ws : List ℕ) (p : ℕ) → p < length ws → base_of (drop p ws) ≡ take (get_or ws p 0) (drop (p + 1) ws) ∷ base_of (drop (get_or ws p 0) (drop (p + 1) ws))
-base_at ws p h = ap base_of (drop_more ws p 0 h) ∙ base_cons (get_or ws p 0) (drop (p + 1) ws)
+at_most : (x : ℕ) (ws : List ℕ) → (take (min (length ws) x) ws ≡ take x ws) × (drop (min (length ws) x) ws ≡ drop x ws)
+at_most x ws = elim (cases_lt x (length ws)) [
+  | inl l ↦ (let e : min (length ws) x ≡ x = omega arith in (ap (λ (k : ℕ). take k ws) e, ap (λ (k : ℕ). drop k ws) e))
+  | inr l ↦ (let e : min (length ws) x ≡ length ws = omega arith in
+      let h : length ws ≤ length ws = omega arith in
+      (ap (λ (k : ℕ). take k ws) e ∙ take_all (length ws) ws h ∙ sym (take_all x ws l), ap (λ (k : ℕ). drop k ws) e ∙ drop_all (length ws) ws h ∙ sym (drop_all x ws l)))
+]
 
-pub base_short : (ws : List ℕ) (p n : ℕ) → p < length ws → n ≡ get_or ws p 0 → base_of (drop p ws) ≡ take ((p + 1 + n) - (p + 1)) (drop (p + 1) ws) ∷ base_of (drop (p + 1 + n) ws)
-base_short ws p n h e =
-    let z : (p + 1 + n) - (p + 1) ≡ n = omega arith in
-    base_at ws p h ∙ ap (λ (x : ℕ). take x (drop (p + 1) ws) ∷ base_of (drop x (drop (p + 1) ws))) (sym e)
-    ∙ ap (λ (x : ℕ). take x (drop (p + 1) ws) ∷ base_of (drop n (drop (p + 1) ws))) (sym z)
-    ∙ ap (λ (x : List ℕ). take ((p + 1 + n) - (p + 1)) (drop (p + 1) ws) ∷ base_of x) (drop-drop n (p + 1) ws)
-
-pub base_long : (ws : List ℕ) (p : ℕ) → p < length ws → length ws - (p + 1) ≤ get_or ws p 0 → base_of (drop p ws) ≡ take (length ws - (p + 1)) (drop (p + 1) ws) ∷ base_of (drop (length ws) ws)
-base_long ws p h l =
-    let d = length-drop (p + 1) ws in
-    let a : take (get_or ws p 0) (drop (p + 1) ws) ≡ take (length ws - (p + 1)) (drop (p + 1) ws) = take_all (get_or ws p 0) (drop (p + 1) ws) (omega arith) ∙ sym (take_rest ws (p + 1)) in
-    let b : drop (get_or ws p 0) (drop (p + 1) ws) ≡ drop (length ws) ws = drop_all (get_or ws p 0) (drop (p + 1) ws) (omega arith) ∙ sym (drop_all (length ws) ws (omega arith)) in
-    base_at ws p h ∙ ap (λ (x : List ℕ). x ∷ base_of (drop (get_or ws p 0) (drop (p + 1) ws))) a ∙ ap (λ (x : List ℕ). take (length ws - (p + 1)) (drop (p + 1) ws) ∷ base_of x) b
-
-pub base_end : (ws : List ℕ) (p : ℕ) → length ws ≤ p → base_of (drop p ws) ≡ []
-base_end ws p h = ap base_of (drop_all p ws h)
+-- the first nogood of the words, and the rest
+pub base_first : (ws words part rest : List ℕ) (x k : ℕ) → ws ≡ x ∷ words → k ≡ min (length words) x → part ≡ take k words → rest ≡ drop k words → base_of ws ≡ part ∷ base_of rest
+base_first ws words part rest x k e ek ep er =
+    let m = at_most x words in
+    let front : part ≡ take x words = ep ∙ ap (λ (n : ℕ). take n words) ek ∙ m.0 in
+    let back : rest ≡ drop x words = er ∙ ap (λ (n : ℕ). drop n words) ek ∙ m.1 in
+    ap base_of e ∙ base_cons x words ∙ ap (λ (n : List ℕ). n ∷ base_of (drop x words)) (sym front) ∙ ap (λ (n : List ℕ). part ∷ base_of n) (sym back)
 
 pub all_mid : {X : Type 0} (P : X → Type 0) (xs ys : List X) (z : X) (zs : List X) → xs ≡ ys ++ z ∷ zs → AllByRecursion P xs → P z
 all_mid P xs ys z zs e a = go ys (subst (λ (x : List _). AllByRecursion P x) e a)
@@ -44,12 +43,12 @@ all_join P Q R f [] a b = tt
 all_join P Q R f (x ∷ xs) a b = (f x a.0 b.0, all_join P Q R f xs a.1 b.1)
 
 -- a step keeps nogoods good
-pub good_step : (m : Meaning) (d e : Desk) → Step m d e → (n : List ℕ) → Good d.masks d.assignments n → Good e.masks e.assignments n
+pub good_step : (m : Meaning) {B : Type 0} (d e : Desk B) → Step m d e → (n : List ℕ) → Good d.domains.now (queued d.settled) n → Good e.domains.now (queued e.settled) n
 good_step m d e s n good quiet =
-    let before = All-weaker (λ v. noted e.assignments v ≡ false) (λ v. noted d.assignments v ≡ false) (λ v h. (s.assignments v h).0) n quiet in
-    All-weaker (λ w. AllByRecursion (λ v. v ≢ w → Only (family d.masks) v) n → Gone (family d.masks) w) (λ w. AllByRecursion (λ v. v ≢ w → Only (family e.masks) v) n → Gone (family e.masks) w)
-    (λ w h f. let g = h (all_join (λ v. noted e.assignments v ≡ false) (λ v. v ≢ w → Only (family e.masks) v) (λ v. v ≢ w → Only (family d.masks) v) (λ v q o x. (s.assignments v q).1 (o x)) n quiet f) in
-    refuted (family e.masks (w / 64) _) (λ x. both_ways (family d.masks (w / 64) _) g (s.inside (w / 64) _ x)))
+    let before = All-weaker (λ v. noted (queued e.settled) v ≡ false) (λ v. noted (queued d.settled) v ≡ false) (λ v h. (s.assignments v h).0) n quiet in
+    All-weaker (λ w. AllByRecursion (λ v. v ≢ w → Only (family d.domains.now) v) n → Gone (family d.domains.now) w) (λ w. AllByRecursion (λ v. v ≢ w → Only (family e.domains.now) v) n → Gone (family e.domains.now) w)
+    (λ w h f. let g = h (all_join (λ v. noted (queued e.settled) v ≡ false) (λ v. v ≢ w → Only (family e.domains.now) v) (λ v. v ≢ w → Only (family d.domains.now) v) (λ v q o x. (s.assignments v q).1 (o x)) n quiet f) in
+    refuted (family e.domains.now (w / 64) _) (λ x. both_ways (family d.domains.now (w / 64) _) g (s.inside (w / 64) _ x)))
     n (good before)
 
 -- one more part

@@ -3,7 +3,7 @@ use Rattle.std.specs.Prelude.{◌≡◌, ℕ, ◌/◌, ◌<◌, false, ◌≢◌
 use Rattle.std.specs.List.{AllByRecursion}
 use Rattle.model.specs.Remains.{Family, family, Only, Heeds}
 use Rattle.propagation.specs.declared.records.Assignment.{Assignment}
-use Rattle.propagation.specs.Desks.{noted}
+use Rattle.propagation.specs.Settling.{noted}
 
 -- The groups of all assignments are below n.
 abbrev pub Grouped : ℕ → List ℕ → Type 0

@@ -1,81 +1,53 @@
--- What lies on the desk while channels are taken away: the sets that remain, and the two lines.
-use Rattle.std.specs.Prelude.{◌≡◌, ℕ, ◌+◌, ◌*◌, ◌<◌, ◌≤◌, Bool, true, false, ◌||◌, ◌⊎◌, List, [], ◌∷◌, ◌++◌, length, sum, ◌==◌, ◌≢◌, slice_index}
+-- What lies on the desk while channels are taken away.
+use Rattle.std.specs.Prelude.{◌≡◌, ℕ, ◌<◌, ◌≤◌, Bool, false, ◌⊎◌, [], length, sum}
+use Rattle.std.specs.List.{AllByRecursion}
 use Rattle.rules.specs.Meanings.{Meaning}
-use Rattle.rules.specs.Channels.{has}
-use Rattle.model.specs.Remains.{family, Only}
+use Rattle.model.specs.Remains.{family, Only, Alive}
+use Rattle.model.specs.Words.{base_of}
+use Rattle.propagation.specs.declared.desk.Desk.{Desk}
 use Rattle.propagation.specs.Waiting.{queued, size}
-use Rattle.propagation.specs.declared.ring.Ring.{Ring}
-use Rattle.propagation.specs.declared.records.RuleEnd.{RuleEnd}
-use Rattle.propagation.specs.declared.records.Assignment.{Assignment}
-use Rattle.propagation.specs.Waits.{waits, at_end, Line, Space}
+use Rattle.propagation.specs.Waits.{waits, at_end}
+use Rattle.propagation.specs.Lines.{SameLine}
 use Rattle.propagation.specs.Supports.{Supported, Inside}
+use Rattle.propagation.specs.Wires.{Wired}
+use Rattle.propagation.specs.Settling.{noted, Settled}
+use Rattle.propagation.specs.Bases.{Grouped}
 
-abbrev pub assignment : ℕ → ℕ → Assignment
-assignment g c = record { group = g; channel = c }
-
--- The assignment of the word v waits; an assignment of the group g waits.
-abbrev pub noted : List Assignment → ℕ → Bool
-noted [] v = false
-noted (f ∷ s) v = 64 * f.group + f.channel == v || noted s v
-
-abbrev pub stands : List Assignment → ℕ → Bool
-stands [] g = false
-stands (f ∷ s) g = f.group == g || stands s g
-
--- No group waits twice.
-abbrev pub Alone : List Assignment → Type 0
-Alone [] = Unit {0}
-Alone (f ∷ s) = (stands s f.group ≡ false) × Alone s
-
--- The group keeps at most one channel.
-abbrev pub Narrow : List ℕ → ℕ → Type 0
-Narrow ms g = (a b : ℕ) → family ms g a ≡ true → family ms g b ≡ true → a ≡ b
-
--- The line of assignments just settled.
-pub record Settled (ms : List ℕ) (s : List Assignment) : Type 0 where
-  pub alone : Alone s
-  pub below : (g : ℕ) → stands s g ≡ true → g < length ms
-  pub narrow : (g : ℕ) → stands s g ≡ true → Narrow ms g
-
-pub record Desk : Type 0 where
-  pub masks : List ℕ
-  pub ends : List RuleEnd
-  pub places : ℕ
-  pub marks : List ℕ
-  pub assignments : List Assignment
-  pub slots : ℕ
-
-abbrev pub desk : List ℕ → Ring RuleEnd → List ℕ → Ring Assignment → Desk
-desk ms e marks f = record { masks = ms; ends = queued e; places = size e; marks = marks; assignments = queued f; slots = size f }
+-- The later desk has the book, the chains, the base and the regions of the earlier one.
+pub record SameDesk {B : Type 0} (d d' : Desk B) : Type 0 where
+  pub book : d'.book ≡ d.book
+  pub wires : d'.wires ≡ d.wires
+  pub base : d'.base ≡ d.base
+  pub domains : d'.domains.ghost_name ≡ d.domains.ghost_name
+  pub groups : length d'.domains.now ≡ length d.domains.now
+  pub line : SameLine d.line d'.line
+  pub settled : d'.settled.places.ghost_name ≡ d.settled.places.ghost_name
+  pub slots : size d'.settled ≡ size d.settled
 
 -- The desk is in order.
-pub record Held (m : Meaning) (d : Desk) : Type 0 where
-  pub groups : length d.masks ≡ m.groups
-  pub line : Line m.count d.ends d.marks
-  pub space : Space m.count d.places d.marks
-  pub settled : Settled d.masks d.assignments
-  pub room : length d.masks ≤ d.slots
-  pub alive : (g : ℕ) → g < length d.masks → slice_index d.masks g ≢ 0
+pub record Held {B : Type 0} (m : Meaning) (d : Desk B) : Type 0 where
+  pub wired : Wired m d.wires.now
+  pub groups : length d.domains.now ≡ m.groups
+  pub rules : d.line.rules ≡ m.count
+  pub grouped : AllByRecursion (Grouped m.groups) (base_of d.base.now)
+  pub settled : Settled d.domains.now (queued d.settled)
+  pub room : length d.domains.now ≤ size d.settled
+  pub alive : Alive d.domains.now (family d.domains.now)
 
 -- Channels were taken away, and what that calls for was put in line: an end that does not wait waited not before and is supported if it was,
 -- and an assignment that does not wait waited not before and is not newly the last of its group.
-pub record Step (m : Meaning) (d d' : Desk) : Type 0 where
-  pub inside : Inside (family d'.masks) (family d.masks)
-  pub ends : (i : ℕ) (s : Bool) → waits d'.ends (at_end i s) ≡ false → (waits d.ends (at_end i s) ≡ false) × (Supported m (family d.masks) i s → Supported m (family d'.masks) i s)
-  pub assignments : (v : ℕ) → noted d'.assignments v ≡ false → (noted d.assignments v ≡ false) × (Only (family d'.masks) v → Only (family d.masks) v)
-  pub falls : ((d'.masks ≡ d.masks) × (d'.ends ≡ d.ends) × (d'.assignments ≡ d.assignments)) ⊎ (sum d'.masks < sum d.masks)
+pub record Step {B : Type 0} (m : Meaning) (d d' : Desk B) : Type 0 where
+  pub inside : Inside (family d'.domains.now) (family d.domains.now)
+  pub ends : (i : ℕ) (s : Bool) → waits (queued d'.line.ends) (at_end i s) ≡ false → (waits (queued d.line.ends) (at_end i s) ≡ false) × (Supported m (family d.domains.now) i s → Supported m (family d'.domains.now) i s)
+  pub assignments : (v : ℕ) → noted (queued d'.settled) v ≡ false → (noted (queued d.settled) v ≡ false) × (Only (family d'.domains.now) v → Only (family d.domains.now) v)
+  pub falls : ((d'.domains.now ≡ d.domains.now) × (queued d'.line.ends ≡ queued d.line.ends) × (queued d'.settled ≡ queued d.settled)) ⊎ (sum d'.domains.now < sum d.domains.now)
 
--- Some group keeps nothing.
-abbrev pub Emptied : List ℕ → Type 0
-Emptied ms = (g : ℕ) × (g < length ms) × (slice_index ms g ≡ 0)
-
--- Two channels in a set; and one alone.
-abbrev pub Two : ℕ → Type 0
-Two k = (a b : ℕ) × (has k a ≡ true) × (has k b ≡ true) × (a ≢ b)
-
-abbrev pub Sole : ℕ → ℕ → Type 0
-Sole k c = (has k c ≡ true) × ((j : ℕ) → has k j ≡ true → j ≡ c)
-
--- Where the set that group g keeps has one channel, that assignment goes in line.
-abbrev pub Noting : ℕ → ℕ → List Assignment → List Assignment → Type 0
-Noting g k s s' = ((s' ≡ s) × Two k) ⊎ ((c : ℕ) × (s' ≡ s ++ (assignment g c ∷ [])) × Sole k c)
+-- The desk is laid out: nothing waits.
+pub record Laid {B : Type 0} (m : Meaning) (d : Desk B) : Type 0 where
+  pub wired : Wired m d.wires.now
+  pub groups : length d.domains.now ≡ m.groups
+  pub rules : d.line.rules ≡ m.count
+  pub grouped : AllByRecursion (Grouped m.groups) (base_of d.base.now)
+  pub room : length d.domains.now ≤ size d.settled
+  pub no_ends : queued d.line.ends ≡ []
+  pub no_settled : queued d.settled ≡ []

@@ -1,5 +1,8 @@
+pub mod Benches
 pub mod Waiting
 pub mod Waits
+pub mod Lines
+pub mod Settling
 pub mod Supports
 pub mod Wires
 pub mod Desks

@@ -1,5 +1,7 @@
 -- The rule ends that wait: in their line, each once, and marked.
 use Rattle.std.specs.Prelude.{◌≡◌, ℕ, ◌+◌, ◌*◌, ◌/◌, ◌%◌, ◌<◌, ◌≤◌, Bool, true, false, ◌||◌, List, [], ◌∷◌, length, ◌==◌, slice_index}
+use Rattle.std.specs.Coded.{×_prop, Unit-prop}
+use Rattle.std.proofs.Props.{props}
 use Rattle.rules.specs.Channels.{has}
 use Rattle.propagation.specs.declared.records.RuleEnd.{RuleEnd}
 
@@ -27,6 +29,10 @@ marked marks e = has (slice_index marks (e / 32)) (e % 32)
 abbrev pub Once : List RuleEnd → Type 0
 Once [] = Unit {0}
 Once (r ∷ q) = (waits q (place r) ≡ false) × Once q
+
+pub Once-prop : (q : List RuleEnd) → IsProp (Once q)
+Once-prop [] = Unit-prop
+Once-prop (r ∷ q) = ×_prop (Prim.hlevel props) (Once-prop q)
 
 -- A line of ends of the first `rules` rules, with its marks.
 pub record Line (rules : ℕ) (q : List RuleEnd) (marks : List ℕ) : Type 0 where

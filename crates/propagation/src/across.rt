@@ -1,45 +1,33 @@
 // The rule ends across from a group go in the line.
 ghost use Rattle.std.specs.Prelude.{◌≡◌, ℕ, ◌<◌};
-ghost use Rattle.propagation.specs.Waiting.{queued, size};
-ghost use Rattle.propagation.specs.Waits.{Line, Space};
+ghost use Rattle.propagation.specs.Waiting.{queued};
 ghost use Rattle.propagation.specs.Supports.{Still, Across};
 ghost use Rattle.propagation.specs.Wires.{Wired};
+ghost use Rattle.propagation.specs.Lines.{SameLine};
 
-use super::line::add;
+use super::desk::Desk;
 use super::records::RuleEnd;
-use super::ring::Ring;
 use rules::book::RuleBook;
 
-// All rule ends that have group `g` across go in the line, along the group's chain.
-pub fn queue_across<B: RuleBook>(
-    book: &B,
-    wires: &[u16],
-    g: u16,
-    ends: &mut Ring<RuleEnd>,
-    marks: &mut [u32],
-)
-    requires wired { Wired (B.meaning book.now) wires.now }
-    requires group { g < (B.meaning book.now).groups }
-    requires line { Line (B.meaning book.now).count (queued ends.old) marks.old }
-    requires space { Space (B.meaning book.now).count (size ends.old) marks.old }
-    ensures sized { size ends.new ≡ size ends.old }
-    ensures line { Line (B.meaning book.now).count (queued ends.new) marks.new }
-    ensures still { Still (queued ends.old) (queued ends.new) }
-    ensures across { (i : ℕ) → Across (B.meaning book.now) g i (queued ends.new) }
-{
-    let rules = book.count();
-    let mut next = wires[8192 + g as usize];
-    while next > 0 {
-        let e = next - 1;
-        add(
-            ends,
-            marks,
-            rules,
-            RuleEnd {
+impl<'d, B: RuleBook> Desk<'d, B> {
+    // All rule ends that have group `g` across go in the line, along the group's chain.
+    pub fn queue_across(&mut self, g: u16)
+        requires wired { Wired (B.meaning self.old.book.now) self.old.wires.now }
+        requires rules { self.old.line.rules ≡ (B.meaning self.old.book.now).count }
+        requires group { g < (B.meaning self.old.book.now).groups }
+        ensures only { self.new ≡ record self.old { line = self.new.line } }
+        ensures line { SameLine self.old.line self.new.line }
+        ensures still { Still (queued self.old.line.ends) (queued self.new.line.ends) }
+        ensures across { (i : ℕ) → Across (B.meaning self.old.book.now) g i (queued self.new.line.ends) }
+    {
+        let mut next = self.wires[8192 + g as usize];
+        while next > 0 {
+            let e = next - 1;
+            self.line.add(RuleEnd {
                 rule: (e / 2) as u32,
                 second: e % 2 == 1,
-            },
-        );
-        next = wires[e as usize];
+            });
+            next = self.wires[e as usize];
+        }
     }
 }

@@ -2,8 +2,11 @@
 #![tactic(auto)]
 
 pub mod across;
+pub mod bench;
 pub mod bits;
 pub mod decision;
+pub mod desk;
+pub mod ends;
 pub mod filter;
 pub mod line;
 pub mod nogood;

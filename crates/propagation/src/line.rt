@@ -1,78 +1,83 @@
 // The line of rule ends that wait, with a mark for each.
-ghost use Rattle.std.specs.Prelude.{◌≡◌, ℕ, ◌<◌, ◌≤◌, true, false, not, ◌&&◌, ◌||◌, [], ◌∷◌, length, MatchOption, ◌==◌};
+ghost use Rattle.std.specs.Prelude.{◌≡◌, ℕ, ◌*◌, ◌<◌, ◌≤◌, Bool, true, ◌||◌, [], ◌∷◌, length, MatchOption, ◌==◌};
+ghost use Rattle.std.proofs.Props.{props};
 ghost use Rattle.propagation.specs.Waiting.{queued, size};
-ghost use Rattle.propagation.specs.Waits.{place, waits, marked, Line, Space};
+ghost use Rattle.propagation.specs.Waits.{place, at_end, waits, Line as Lined, Once-prop, Space};
+ghost use Rattle.propagation.specs.Supports.{Still};
 
+use super::ends::{draw, put};
 use super::records::RuleEnd;
 use super::ring::Ring;
 
-// The number of a rule end.
-pub fn number(e: RuleEnd) -> u32
-    requires { e.rule < 4096 }
-    ensures { result ≡ place e }
-{
-    if e.second { 2 * e.rule + 1 } else { 2 * e.rule }
+// The ends of the first `rules` rules that wait, each once and marked.
+#[derive(Drop)]
+pub struct Line<'r> {
+    ends: Ring<'r, RuleEnd>,
+    marks: &'r mut [u32],
+    rules: u32,
+    ghost line: { Lined rules (queued ends) marks.now } by { Prim.hlevel (props, Once-prop) },
+    ghost space: { Space rules (size ends) marks.now },
 }
 
-pub fn is_marked(marks: &[u32], e: u32) -> bool
-    requires { (e < 8192) × (length marks.now ≡ 256) }
-    ensures { result ≡ marked marks.now e }
-{
-    (marks[(e / 32) as usize] >> (e % 32)) % 2 == 1
-}
+impl<'r> Line<'r> {
+    ghost use Rattle.propagation.specs.Lines.{SameLine};
 
-pub fn mark(marks: &mut [u32], e: u32)
-    requires within { e < 8192 }
-    requires words { length marks.old ≡ 256 }
-    requires state { marked marks.old e ≡ false }
-    ensures { (j : ℕ) → marked marks.new j ≡ (marked marks.old j || j == e) }
-{
-    let at = (e / 32) as usize;
-    let word = marks[at];
-    marks[at] = word + (1 << (e % 32));
-}
-
-pub fn unmark(marks: &mut [u32], e: u32)
-    requires within { e < 8192 }
-    requires words { length marks.old ≡ 256 }
-    requires state { marked marks.old e ≡ true }
-    ensures { (j : ℕ) → marked marks.new j ≡ (marked marks.old j && not (j == e)) }
-{
-    let at = (e / 32) as usize;
-    let word = marks[at];
-    marks[at] = word - (1 << (e % 32));
-}
-
-// Puts an end in the line, unless it waits there.
-pub fn add(ends: &mut Ring<RuleEnd>, marks: &mut [u32], rules: u32, e: RuleEnd)
-    requires line { Line rules (queued ends.old) marks.old }
-    requires space { Space rules (size ends.old) marks.old }
-    requires counted { e.rule < rules }
-    ensures sized { size ends.new ≡ size ends.old }
-    ensures line { Line rules (queued ends.new) marks.new }
-    ensures more { (j : ℕ) → waits (queued ends.new) j ≡ (waits (queued ends.old) j || j == place e) }
-{
-    let p = number(e);
-    if !is_marked(marks, p) {
-        mark(marks, p);
-        let _ = ends.push(e);
-    }
-}
-
-// Takes the oldest end out of the line.
-pub fn take(ends: &mut Ring<RuleEnd>, marks: &mut [u32], rules: u32) -> Option<RuleEnd>
-    requires line { Line rules (queued ends.old) marks.old }
-    requires space { Space rules (size ends.old) marks.old }
-    ensures sized { size ends.new ≡ size ends.old }
-    ensures line { Line rules (queued ends.new) marks.new }
-    ensures first { MatchOption result ((queued ends.old ≡ []) × (queued ends.new ≡ [])) (λ e. (e.rule < rules) × (queued ends.old ≡ e ∷ queued ends.new)) }
-{
-    match ends.pop() {
-        Some(e) => {
-            let p = number(e);
-            unmark(marks, p);
-            Some(e)
+    // A line in which nothing waits.
+    pub fn over(ends: &'r mut [RuleEnd], marks: &'r mut [u32], rules: u32) -> Line<'r>
+        requires few { rules ≤ 4096 }
+        requires room { 2 * rules ≤ length ends.old }
+        requires words { length marks.old ≡ 256 }
+        ensures ends { result.ends.places.ghost_name ≡ ends.entry.ghost_name }
+        ensures marks { result.marks.ghost_name ≡ marks.entry.ghost_name }
+        ensures rules { result.rules ≡ rules }
+        ensures empty { queued result.ends ≡ [] }
+    {
+        marks.fill(0);
+        Line {
+            ends: Ring::over(ends),
+            marks,
+            rules,
         }
-        None => None,
+    }
+
+    // Puts an end in the line, unless it waits there.
+    pub fn add(&mut self, e: RuleEnd)
+        requires counted { e.rule < self.old.rules }
+        ensures same { SameLine self.old self.new }
+        ensures more { (j : ℕ) → waits (queued self.new.ends) j ≡ (waits (queued self.old.ends) j || j == place e) }
+    {
+        put(&mut self.ends, self.marks, self.rules, e);
+    }
+
+    // Takes the oldest end out of the line.
+    pub fn take(&mut self) -> Option<RuleEnd>
+        ensures same { SameLine self.old self.new }
+        ensures first { MatchOption result ((queued self.old.ends ≡ []) × (queued self.new.ends ≡ [])) (λ e. (e.rule < self.old.rules) × (queued self.old.ends ≡ e ∷ queued self.new.ends)) }
+    {
+        draw(&mut self.ends, self.marks, self.rules)
+    }
+
+    // Both ends of a rule go in line.
+    pub fn add_both(&mut self, rule: u32)
+        requires counted { rule < self.old.rules }
+        ensures same { SameLine self.old self.new }
+        ensures still { Still (queued self.old.ends) (queued self.new.ends) }
+        ensures both { (s : Bool) → waits (queued self.new.ends) (at_end rule s) ≡ true }
+    {
+        self.add(RuleEnd {
+            rule,
+            second: false,
+        });
+        self.add(RuleEnd { rule, second: true });
+    }
+
+    // The ends of all rules.
+    pub fn add_all(&mut self)
+        ensures same { SameLine self.old self.new }
+        ensures all { (i : ℕ) (s : Bool) → i < self.old.rules → waits (queued self.new.ends) (at_end i s) ≡ true }
+    {
+        for rule in 0..self.rules {
+            self.add_both(rule);
+        }
     }
 }

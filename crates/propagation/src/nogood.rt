@@ -1,15 +1,16 @@
 // A nogood whose other assignments are all settled loses the last one.
-ghost use Rattle.std.specs.Prelude.{◌≡◌, ℕ, ◌/◌, ◌<◌, ◌≤◌, true, false, ◌≢◌, length, Decides, MatchOption, slice_index};
+ghost use Rattle.std.specs.Prelude.{◌≡◌, ℕ, ◌/◌, ◌<◌, ◌≢◌, length, Decides, MatchOption, OnOk, OnErr, slice_index};
+ghost use Rattle.model.specs.Masks.{grp};
 ghost use Rattle.model.specs.Remains.{Family, family, Only, Gone, Heeds};
 ghost use Rattle.propagation.specs.Supports.{Inside};
-ghost use Rattle.propagation.specs.Desks.{desk, Held, Step, Emptied};
+ghost use Rattle.propagation.specs.Settling.{Emptied};
+ghost use Rattle.propagation.specs.Desks.{SameDesk, Held, Step};
 ghost use Rattle.propagation.specs.Bases.{Grouped, Forced};
-ghost use Rattle.propagation.specs.Wires.{Wired};
 
+use super::bench::Dead;
 use super::bits::without;
-use super::records::{Assignment, RuleEnd};
-use super::ring::Ring;
-use super::shrink::shrink;
+use super::desk::Desk;
+use model::decision::{channel_of, group_of};
 use rules::book::RuleBook;
 
 // Whether the group of the assignment keeps no channel but its own.
@@ -17,32 +18,7 @@ pub fn is_only(domains: &[u64], v: u32) -> bool
     requires { v / 64 < length domains.now }
     ensures { Decides result (Only (family domains.now) v) }
 {
-    without(domains[(v / 64) as usize], (v % 64) as u8) == 0
-}
-
-// The channel of an assignment goes.
-pub fn remove<B: RuleBook>(
-    book: &B,
-    wires: &[u16],
-    v: u32,
-    domains: &mut [u64],
-    ends: &mut Ring<RuleEnd>,
-    marks: &mut [u32],
-    settled: &mut Ring<Assignment>,
-) -> bool
-    requires wired { Wired (B.meaning book.now) wires.now }
-    requires held { Held (B.meaning book.now) (desk domains.old ends.old marks.old settled.old) }
-    requires group { v / 64 < length domains.old }
-    requires narrow { length domains.old ≤ 65536 }
-    ensures within { (k : Family) → Gone k v → Inside k (family domains.old) → Inside k (family domains.new) }
-    ensures gone { Gone (family domains.new) v }
-    ensures dead { result ≡ false → Emptied domains.new }
-    ensures held { result ≡ true → Held (B.meaning book.now) (desk domains.new ends.new marks.new settled.new) }
-    ensures step { result ≡ true → Step (B.meaning book.now) (desk domains.old ends.old marks.old settled.old) (desk domains.new ends.new marks.new settled.new) }
-{
-    let g = (v / 64) as u16;
-    let keeps = without(domains[g as usize], (v % 64) as u8);
-    shrink(book, wires, g, keeps, domains, ends, marks, settled)
+    without(domains[group_of(v)], channel_of(v)) == 0
 }
 
 // Whether the others are all settled.
@@ -50,8 +26,7 @@ pub fn others_settled(nogood: &[u32], w: u32, domains: &[u64]) -> bool
     requires { Grouped (length domains.now) nogood.now }
     ensures { Decides result (Forced (family domains.now) nogood.now w) }
 {
-    for k in 0..nogood.len() {
-        let v = nogood[k];
+    for &v in nogood {
         if v != w && !is_only(domains, v) {
             return false;
         }
@@ -64,8 +39,7 @@ pub fn unsettled(nogood: &[u32], domains: &[u64]) -> Option<u32>
     requires { Grouped (length domains.now) nogood.now }
     ensures { MatchOption result ((k : ℕ) → k < length nogood.now → Only (family domains.now) (slice_index nogood.now k)) (λ w. (k : ℕ) × (k < length nogood.now) × (w ≡ slice_index nogood.now k) × (Only (family domains.now) w → ⊥)) }
 {
-    for k in 0..nogood.len() {
-        let v = nogood[k];
+    for &v in nogood {
         if !is_only(domains, v) {
             return Some(v);
         }
@@ -79,45 +53,50 @@ pub fn forced(nogood: &[u32], domains: &[u64]) -> Option<u32>
     ensures { MatchOption result ((k : ℕ) → k < length nogood.now → Forced (family domains.now) nogood.now (slice_index nogood.now k) → ⊥) (λ w. (k : ℕ) × (k < length nogood.now) × (w ≡ slice_index nogood.now k) × Forced (family domains.now) nogood.now w) }
 {
     match unsettled(nogood, domains) {
-        Some(w) => {
-            if others_settled(nogood, w, domains) {
-                Some(w)
-            } else {
-                None
-            }
-        }
-        None => {
-            if nogood.len() == 0 {
-                None
-            } else {
-                Some(nogood[0])
-            }
-        }
+        Some(w) => others_settled(nogood, w, domains).then_some(w),
+        None => nogood.first().copied(),
     }
 }
 
-// The look at one nogood.
-pub fn look<B: RuleBook>(
-    book: &B,
-    wires: &[u16],
-    nogood: &[u32],
-    domains: &mut [u64],
-    ends: &mut Ring<RuleEnd>,
-    marks: &mut [u32],
-    settled: &mut Ring<Assignment>,
-) -> bool
-    requires wired { Wired (B.meaning book.now) wires.now }
-    requires held { Held (B.meaning book.now) (desk domains.old ends.old marks.old settled.old) }
-    requires grouped { Grouped (length domains.old) nogood.now }
-    requires narrow { length domains.old ≤ 65536 }
-    ensures within { (k : Family) → Heeds k nogood.now → Inside k (family domains.old) → Inside k (family domains.new) }
-    ensures dead { result ≡ false → Emptied domains.new }
-    ensures held { result ≡ true → Held (B.meaning book.now) (desk domains.new ends.new marks.new settled.new) }
-    ensures step { result ≡ true → Step (B.meaning book.now) (desk domains.old ends.old marks.old settled.old) (desk domains.new ends.new marks.new settled.new) }
-    ensures heeds { result ≡ true → Heeds (family domains.new) nogood.now }
-{
-    match forced(nogood, domains) {
-        None => true,
-        Some(w) => remove(book, wires, w, domains, ends, marks, settled),
+impl<'d, B: RuleBook> Desk<'d, B> {
+    // The channel of an assignment goes.
+    pub fn remove(&mut self, v: u32) -> Result<(), Dead>
+        requires held { Held (B.meaning self.old.book.now) self.old }
+        requires group { grp v < length self.old.domains.now }
+        ensures same { SameDesk self.old self.new }
+        ensures within { (k : Family) → Gone k v → Inside k (family self.old.domains.now) → Inside k (family self.new.domains.now) }
+        ensures gone { Gone (family self.new.domains.now) v }
+        ensures dead { OnErr result (Emptied self.new.domains.now) }
+        ensures held { OnOk result (Held (B.meaning self.old.book.now) self.new) }
+        ensures step { OnOk result (Step (B.meaning self.old.book.now) self.old self.new) }
+    {
+        let g = group_of(v);
+        let keeps = without(self.domains[g], channel_of(v));
+        self.shrink(g as u16, keeps)
+    }
+
+    // The assignment of a nogood that has to go, if there is one.
+    pub fn forced(&self, nogood: &[u32]) -> Option<u32>
+        requires { Grouped (length self.now.domains.now) nogood.now }
+        ensures { MatchOption result ((k : ℕ) → k < length nogood.now → Forced (family self.now.domains.now) nogood.now (slice_index nogood.now k) → ⊥) (λ w. (k : ℕ) × (k < length nogood.now) × (w ≡ slice_index nogood.now k) × Forced (family self.now.domains.now) nogood.now w) }
+    {
+        forced(nogood, self.domains)
+    }
+
+    // The look at one nogood.
+    pub fn look(&mut self, nogood: &[u32]) -> Result<(), Dead>
+        requires held { Held (B.meaning self.old.book.now) self.old }
+        requires grouped { Grouped (length self.old.domains.now) nogood.now }
+        ensures same { SameDesk self.old self.new }
+        ensures within { (k : Family) → Heeds k nogood.now → Inside k (family self.old.domains.now) → Inside k (family self.new.domains.now) }
+        ensures dead { OnErr result (Emptied self.new.domains.now) }
+        ensures held { OnOk result (Held (B.meaning self.old.book.now) self.new) }
+        ensures step { OnOk result (Step (B.meaning self.old.book.now) self.old self.new) }
+        ensures heeds { OnOk result (Heeds (family self.new.domains.now) nogood.now) }
+    {
+        match self.forced(nogood) {
+            None => Ok(()),
+            Some(w) => self.remove(w),
+        }
     }
 }

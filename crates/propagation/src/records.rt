@@ -1,4 +1,8 @@
 // What waits in lines.
+ghost use Rattle.std.specs.Prelude.{◌≡◌};
+ghost use Rattle.model.specs.Said.{word_of};
+
+use model::decision::assignment_word;
 
 // One end of a rule: that of its first group, or of its second.
 #[derive(Clone, Copy)]
@@ -12,4 +16,13 @@ pub struct RuleEnd {
 pub struct Assignment {
     pub group: u16,
     pub channel: u8,
+}
+
+// The word of an assignment.
+impl From<Assignment> for u32 {
+    ghost from_gives = { λ a w. w ≡ word_of a.group a.channel };
+
+    fn from(a: Assignment) -> u32 {
+        assignment_word(a.group, a.channel)
+    }
 }

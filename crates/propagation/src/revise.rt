@@ -1,13 +1,13 @@
 // The group at an end of a rule keeps the channels that are backed from across.
-ghost use Rattle.std.specs.Prelude.{◌≡◌, ℕ, ◌<◌, ◌≤◌, true, false, length, set};
+ghost use Rattle.std.specs.Prelude.{◌≡◌, OnOk, OnErr};
 ghost use Rattle.model.specs.Remains.{Family, family};
 ghost use Rattle.propagation.specs.Supports.{near, far, Supported, Inside};
-ghost use Rattle.propagation.specs.Desks.{desk, Held, Step, Emptied};
-ghost use Rattle.propagation.specs.Wires.{Wired};
+ghost use Rattle.propagation.specs.Settling.{Emptied};
+ghost use Rattle.propagation.specs.Desks.{SameDesk, Held, Step};
 
-use super::records::{Assignment, RuleEnd};
-use super::ring::Ring;
-use super::shrink::shrink;
+use super::bench::Dead;
+use super::desk::Desk;
+use super::records::RuleEnd;
 use super::support::kept_at;
 use rules::book::RuleBook;
 
@@ -19,31 +19,24 @@ pub fn turned(second: bool, e: (u16, u16)) -> (u16, u16)
     if second { (e.1, e.0) } else { e }
 }
 
-pub fn revise<B: RuleBook>(
-    book: &B,
-    wires: &[u16],
-    e: RuleEnd,
-    domains: &mut [u64],
-    ends: &mut Ring<RuleEnd>,
-    marks: &mut [u32],
-    settled: &mut Ring<Assignment>,
-) -> bool
-    requires wired { Wired (B.meaning book.now) wires.now }
-    requires held { Held (B.meaning book.now) (desk domains.old ends.old marks.old settled.old) }
-    ensures within { (k : Family) → Supported (B.meaning book.now) k e.rule e.second → Inside k (family domains.old) → Inside k (family domains.new) }
-    ensures dead { result ≡ false → Emptied domains.new }
-    ensures held { result ≡ true → Held (B.meaning book.now) (desk domains.new ends.new marks.new settled.new) }
-    ensures step { result ≡ true → Step (B.meaning book.now) (desk domains.old ends.old marks.old settled.old) (desk domains.new ends.new marks.new settled.new) }
-    ensures done { result ≡ true → Supported (B.meaning book.now) (family domains.new) e.rule e.second }
-{
-    match book.ends(e.rule) {
-        None => true,
-        Some(pair) => {
-            let (near, far) = turned(e.second, pair);
-            let set = domains[near as usize];
-            let across = domains[far as usize];
-            let keeps = kept_at(book, e.rule, e.second, set, across);
-            shrink(book, wires, near, keeps, domains, ends, marks, settled)
-        }
+impl<'d, B: RuleBook> Desk<'d, B> {
+    // The look at one rule end.
+    pub fn revise(&mut self, e: RuleEnd) -> Result<(), Dead>
+        requires held { Held (B.meaning self.old.book.now) self.old }
+        ensures same { SameDesk self.old self.new }
+        ensures within { (k : Family) → Supported (B.meaning self.old.book.now) k e.rule e.second → Inside k (family self.old.domains.now) → Inside k (family self.new.domains.now) }
+        ensures dead { OnErr result (Emptied self.new.domains.now) }
+        ensures held { OnOk result (Held (B.meaning self.old.book.now) self.new) }
+        ensures step { OnOk result (Step (B.meaning self.old.book.now) self.old self.new) }
+        ensures done { OnOk result (Supported (B.meaning self.old.book.now) (family self.new.domains.now) e.rule e.second) }
+    {
+        let Some(pair) = self.book.ends(e.rule) else {
+            return Ok(());
+        };
+        let (near, far) = turned(e.second, pair);
+        let set = self.domains[near as usize];
+        let across = self.domains[far as usize];
+        let keeps = kept_at(self.book, e.rule, e.second, set, across);
+        self.shrink(near, keeps)
     }
 }

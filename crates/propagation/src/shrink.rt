@@ -1,13 +1,14 @@
 // A group loses channels.
-ghost use Rattle.std.specs.Prelude.{◌≡◌, ℕ, ◌<◌, ◌≤◌, true, false, length, ◌≢◌, slice_index, slice_set};
+ghost use Rattle.std.specs.Prelude.{◌≡◌, ℕ, ◌<◌, true, length, ◌≢◌, OnOk, OnErr, slice_index, slice_set};
 ghost use Rattle.rules.specs.Channels.{has};
 ghost use Rattle.propagation.specs.Waiting.{queued, size};
-ghost use Rattle.propagation.specs.Desks.{desk, Held, Step, Noting};
-ghost use Rattle.propagation.specs.Wires.{Wired};
+ghost use Rattle.propagation.specs.Settling.{Noting};
+ghost use Rattle.propagation.specs.Desks.{SameDesk, Held, Step};
 
-use super::across::queue_across;
+use super::bench::Dead;
 use super::bits::{lowest, without};
-use super::records::{Assignment, RuleEnd};
+use super::desk::Desk;
+use super::records::Assignment;
 use super::ring::Ring;
 use rules::book::RuleBook;
 
@@ -15,6 +16,7 @@ use rules::book::RuleBook;
 pub fn settle(g: u16, keeps: u64, settled: &mut Ring<Assignment>)
     requires some { keeps ≢ 0 }
     requires room { length (queued settled.old) < size settled.old }
+    ensures held { settled.new.places.ghost_name ≡ settled.old.places.ghost_name }
     ensures sized { size settled.new ≡ size settled.old }
     ensures noting { Noting g keeps (queued settled.old) (queued settled.new) }
 {
@@ -27,36 +29,28 @@ pub fn settle(g: u16, keeps: u64, settled: &mut Ring<Assignment>)
     }
 }
 
-// Group `g` keeps the channels of `keeps`; where these are fewer, what that calls for goes in line. Answers false where it keeps none.
-pub fn shrink<B: RuleBook>(
-    book: &B,
-    wires: &[u16],
-    g: u16,
-    keeps: u64,
-    domains: &mut [u64],
-    ends: &mut Ring<RuleEnd>,
-    marks: &mut [u32],
-    settled: &mut Ring<Assignment>,
-) -> bool
-    requires wired { Wired (B.meaning book.now) wires.now }
-    requires held { Held (B.meaning book.now) (desk domains.old ends.old marks.old settled.old) }
-    requires group { g < length domains.old }
-    requires less { keeps ≤ slice_index domains.old g }
-    requires inside { (j : ℕ) → has keeps j ≡ true → has (slice_index domains.old g) j ≡ true }
-    ensures left { domains.new ≡ slice_set domains.old g keeps }
-    ensures dead { result ≡ false → keeps ≡ 0 }
-    ensures held { result ≡ true → Held (B.meaning book.now) (desk domains.new ends.new marks.new settled.new) }
-    ensures step { result ≡ true → Step (B.meaning book.now) (desk domains.old ends.old marks.old settled.old) (desk domains.new ends.new marks.new settled.new) }
-{
-    let old = domains[g as usize];
-    if keeps == old {
-        return true;
+impl<'d, B: RuleBook> Desk<'d, B> {
+    // Group `g` keeps the channels of `keeps`; where these are fewer, what that calls for goes in line.
+    pub fn shrink(&mut self, g: u16, keeps: u64) -> Result<(), Dead>
+        requires held { Held (B.meaning self.old.book.now) self.old }
+        requires group { g < length self.old.domains.now }
+        requires inside { (j : ℕ) → has keeps j ≡ true → has (slice_index self.old.domains.now g) j ≡ true }
+        ensures same { SameDesk self.old self.new }
+        ensures left { self.new.domains.now ≡ slice_set self.old.domains.now g keeps }
+        ensures dead { OnErr result (keeps ≡ 0) }
+        ensures held { OnOk result (Held (B.meaning self.old.book.now) self.new) }
+        ensures step { OnOk result (Step (B.meaning self.old.book.now) self.old self.new) }
+    {
+        let old = self.domains[g as usize];
+        if keeps == old {
+            return Ok(());
+        }
+        self.domains[g as usize] = keeps;
+        if keeps == 0 {
+            return Err(Dead);
+        }
+        self.queue_across(g);
+        settle(g, keeps, &mut self.settled);
+        Ok(())
     }
-    domains[g as usize] = keeps;
-    if keeps == 0 {
-        return false;
-    }
-    queue_across(book, wires, g, ends, marks);
-    settle(g, keeps, settled);
-    true
 }

@@ -18,6 +18,7 @@ returns-then-without-eq0 c =
       | inr n ↦ absurd (both_ways (has 0 j) (has_none j) (subst (λ (x : ℕ). has x j ≡ true) c.if-without-eq0.true (cut_stays m k c.without.result c.without.ensures.bits j e n)))
     ] in
     record {
+      held = c.push.ensures.held;
       sized = c.push.ensures.sized;
       noting = inr (k, either_way c.push.result c.push.ensures.line (λ _ p. p.1) (λ _ p. absurd (omega (arith, p.1, c.requires.room))), (h, sole));
     }
@@ -32,6 +33,7 @@ returns-else-without-eq0 c =
     let b = c.without.ensures.bits in
     let t = has_some r (omega arith) c.if-without-eq0.false in
     record {
+      held = refl;
       sized = refl;
       noting = inl (refl, (k, t.0, h, cut_inside m k r b t.0 t.1, λ e. cut_other m k r b t.0 t.1 (sym e)));
     }

@@ -4,7 +4,7 @@ use Rattle.model.specs.Remains.{Family, family, Obeys}
 use Rattle.propagation.specs.Supports.{Inside}
 use Rattle.propagation.proofs.start.decide_all.Given as goal
 
-abbrev pub invariant-loop-j : goal.invariant-loop-j
-invariant-loop-j l = Inside (family l.domains) (family l.initial.domains)
-    × ((i : ℕ) → i < l.j → Obeys (family l.domains) (decision (get_or l.branch i 0)))
+abbrev pub invariant-loop-word : goal.invariant-loop-word
+invariant-loop-word l = Inside (family l.domains) (family l.initial.domains)
+    × ((i : ℕ) → i < l.word-index → Obeys (family l.domains) (decision (get_or l.branch i 0)))
     × ((k : Family) → ((i : ℕ) → i < length l.branch → Obeys k (decision (get_or l.branch i 0))) → Inside k (family l.initial.domains) → Inside k (family l.domains))

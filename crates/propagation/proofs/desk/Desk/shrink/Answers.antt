@@ -1,0 +1,79 @@
+use Rattle.std.proofs.Common.{◌≡◌, ℕ, ◌^◌, ◌<◌, List, length, get_or, set, sym, refl, ap, ◌∙◌, subst, inr, arith}
+use Rattle.std.proofs.lemmas.List.{length-set, set-get_or}
+use Rattle.propagation.specs.declared.desk.Desk.{Desk}
+use Rattle.propagation.specs.Waiting.{queued, size}
+use Rattle.propagation.specs.Settling.{assignment, Noting}
+use Rattle.propagation.specs.Desks.{Held, Step}
+use Rattle.propagation.proofs.Steps.{not_standing, shrink_settled, shrink_assignments, shrink_ends, shrink_falls, set_inside, set_alive, step_same}
+use Rattle.propagation.proofs.Groups.{stands_room}
+use Rattle.propagation.proofs.Deciding.{within_le}
+use Rattle.propagation.proofs.Digits.{has_some}
+use Rattle.propagation.proofs.desk.Desk.shrink.Goals as goal
+
+pub settle-requires-clause-room : goal.settle-requires-clause-room
+settle-requires-clause-room g c =
+    let ms = c.args.self.now.domains.now in
+    let x = c.args.g in
+    let k = c.args.keeps in
+    let h = c.requires.held.settled in
+    let s = queued c.args.self.now.settled in
+    let fits : get_or ms x 0 < 2 ^ 64 = omega arith in
+    let low = within_le k (get_or ms x 0) (omega arith) c.requires.inside in
+    let less : k < get_or ms x 0 = omega (arith, low, c.if-keeps-old.false) in
+    let some = has_some k (omega arith) c.if-keeps-eq0.false in
+    let st = not_standing ms x k c.requires.group c.requires.inside fits less some s h in
+    subst (λ (d : Desk g.row.B.Denot). length (queued d.settled) < size d.settled) (sym c.queue_across.ensures.only)
+    (omega (arith, stands_room s (length ms) (assignment x 0) h.alone h.below st c.requires.group, c.requires.held.room))
+
+pub returns-clause-held : goal.returns-clause-held
+returns-clause-held g c =
+    let m = g.B.RuleBook.meaning c.args.self.now.book.now in
+    let d = c.args.self.now in
+    let ms = d.domains.now in
+    let x = c.args.g in
+    let k = c.args.keeps in
+    let h = c.requires.held in
+    let only = c.queue_across.ensures.only in
+    let fits : get_or ms x 0 < 2 ^ 64 = omega arith in
+    let low = within_le k (get_or ms x 0) (omega arith) c.requires.inside in
+    let less : k < get_or ms x 0 = omega (arith, low, c.if-keeps-old.false) in
+    let some = has_some k (omega arith) c.if-keeps-eq0.false in
+    let s = queued d.settled in
+    let s' = queued c.settle.new.settled in
+    let noting : Noting x k s s' = subst (λ (e : Desk g.row.B.Denot). Noting x k (queued e.settled) s') only c.settle.ensures.noting in
+    let sized : size c.settle.new.settled ≡ size d.settled = c.settle.ensures.sized ∙ ap (λ (e : Desk g.row.B.Denot). size e.settled) only in
+    let same : length (set ms x k) ≡ length ms = length-set ms x k in
+    subst (λ (e : Desk g.row.B.Denot). Held m (record e { settled = c.settle.new.settled })) (sym only) (record {
+      wired = h.wired;
+      groups = same ∙ h.groups;
+      rules = c.queue_across.ensures.line.rules ∙ h.rules;
+      grouped = h.grouped;
+      settled = shrink_settled ms x k c.requires.group c.requires.inside fits less some s s' h.settled noting;
+      room = omega (arith, h.room, same, sized);
+      alive = set_alive ms x k c.requires.group some h.alive;
+    })
+
+pub returns-clause-step : goal.returns-clause-step
+returns-clause-step g c =
+    let m = g.B.RuleBook.meaning c.args.self.now.book.now in
+    let d = c.args.self.now in
+    let ms = d.domains.now in
+    let x = c.args.g in
+    let k = c.args.keeps in
+    let h = c.requires.held in
+    let only = c.queue_across.ensures.only in
+    let fits : get_or ms x 0 < 2 ^ 64 = omega arith in
+    let low = within_le k (get_or ms x 0) (omega arith) c.requires.inside in
+    let less : k < get_or ms x 0 = omega (arith, low, c.if-keeps-old.false) in
+    let some = has_some k (omega arith) c.if-keeps-eq0.false in
+    let s = queued d.settled in
+    let s' = queued c.settle.new.settled in
+    let noting : Noting x k s s' = subst (λ (e : Desk g.row.B.Denot). Noting x k (queued e.settled) s') only c.settle.ensures.noting in
+    let q = queued d.line.ends in
+    let q' = queued c.queue_across.new.self.line.ends in
+    subst (λ (e : Desk g.row.B.Denot). Step m d (record e { settled = c.settle.new.settled })) (sym only) (record {
+      inside = set_inside ms x k c.requires.group c.requires.inside;
+      ends = shrink_ends ms x k c.requires.group c.requires.inside fits less some m q q' c.queue_across.ensures.still c.queue_across.ensures.across;
+      assignments = shrink_assignments ms x k c.requires.group c.requires.inside fits less some s s' noting;
+      falls = inr (shrink_falls ms x k c.requires.group c.requires.inside fits less some);
+    })

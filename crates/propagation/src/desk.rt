@@ -1,0 +1,68 @@
+// What lies on the desk while channels are taken away.
+ghost use Rattle.std.specs.Prelude.{◌≡◌, ◌*◌, ◌≤◌, length};
+ghost use Rattle.std.specs.List.{AllByRecursion};
+ghost use Rattle.model.specs.Words.{base_of};
+ghost use Rattle.propagation.specs.Wires.{Wired};
+ghost use Rattle.propagation.specs.Bases.{Grouped};
+ghost use Rattle.propagation.specs.Desks.{Laid};
+
+use super::line::Line;
+use super::records::{Assignment, RuleEnd};
+use super::ring::Ring;
+use rules::book::RuleBook;
+
+// A book with its chains and the base, what remains of the lists, and the two lines of what waits to be looked at.
+#[derive(Drop)]
+pub struct Desk<'d, B: RuleBook> {
+    pub book: &'d B,
+    pub wires: &'d [u16],
+    pub base: &'d [u32],
+    pub domains: &'d mut [u64],
+    pub line: Line<'d>,
+    pub settled: Ring<'d, Assignment>,
+}
+
+impl<'d, B: RuleBook> Desk<'d, B> {
+    // A desk over regions of the sizes needed, on which nothing waits.
+    pub fn over(
+        book: &'d B,
+        wires: &'d [u16],
+        base: &'d [u32],
+        domains: &'d mut [u64],
+        marks: &'d mut [u32],
+        ends: &'d mut [RuleEnd],
+        settled: &'d mut [Assignment],
+    ) -> Desk<'d, B>
+        requires wired { Wired (B.meaning book.now) wires.now }
+        requires groups { length domains.old ≡ (B.meaning book.now).groups }
+        requires grouped { AllByRecursion (Grouped (B.meaning book.now).groups) (base_of base.now) }
+        requires words { length marks.old ≡ 256 }
+        requires places { 2 * (B.meaning book.now).count ≤ length ends.old }
+        requires slots { length domains.old ≤ length settled.old }
+        ensures book { result.book ≡ book.entry }
+        ensures base { result.base ≡ base.entry }
+        ensures domains { result.domains.ghost_name ≡ domains.entry.ghost_name }
+        ensures marks { result.line.marks.ghost_name ≡ marks.entry.ghost_name }
+        ensures ends { result.line.ends.places.ghost_name ≡ ends.entry.ghost_name }
+        ensures settled { result.settled.places.ghost_name ≡ settled.entry.ghost_name }
+        ensures remain { result.domains.now ≡ domains.old }
+        ensures laid { Laid (B.meaning book.now) result }
+    {
+        Desk {
+            book,
+            wires,
+            base,
+            domains,
+            line: Line::over(ends, marks, book.count()),
+            settled: Ring::over(settled),
+        }
+    }
+
+    // What remains, written to a region.
+    pub fn write(&self, to: &mut [u64])
+        requires { length to.old ≡ length self.now.domains.now }
+        ensures { to.new ≡ self.now.domains.now }
+    {
+        to.copy_from_slice(self.domains);
+    }
+}
