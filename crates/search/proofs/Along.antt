@@ -34,7 +34,7 @@ use Rattle.search.specs.declared.regions.Regions.{Regions}
 use Rattle.search.specs.declared.turns.Move.{Move}
 use Rattle.search.specs.declared.turns.Move.TheVariants.{Decide}
 use Rattle.search.specs.Counts.{Counted}
-use Rattle.search.specs.Regions.{SameRegions, Sizes}
+use Rattle.search.specs.Regions.{bench, SameRegions, Sizes}
 use Rattle.search.specs.Turns.{state_of, Fit, Fresh, KeptWords, Moved}
 
 -- The search at a state, with the events and restarts of the call so far.
@@ -122,8 +122,8 @@ module _ {O P H Q : Type 0} (om : OrderMeaning H) (pm : PolicyMeaning Q) (oh : O
     pub onward : FromStart left (at (state_of p here.regions.branch.now here.regions.base.now) events restarts)
     pub counted : Counted left p
     pub fit : Fit lists p here.regions.branch.now here.regions.base.now
-    pub fresh : last ≡ Some Decide → Fresh lists book p here.regions.branch.now here.regions.base.now here.regions.bench.domains.now
-    pub beyond : Beyond (length lists) book.count found.regions.bench here.regions.bench
+    pub fresh : last ≡ Some Decide → Fresh lists book p here.regions.branch.now here.regions.base.now here.regions.domains.now
+    pub beyond : Beyond (length lists) book.count (bench found.regions) (bench here.regions)
     pub kept : KeptWords (length lists) p₀.base_used p.base_used found.regions.branch.now here.regions.branch.now found.regions.base.now here.regions.base.now
     pub plan : here.regions.plan.now ≡ found.regions.plan.now
     pub same : SameRegions found.regions here.regions
@@ -131,8 +131,8 @@ module _ {O P H Q : Type 0} (om : OrderMeaning H) (pm : PolicyMeaning Q) (oh : O
   -- One move more.
   pub along_more : (left : ℕ) (last last' : Option Move) (p p' : Progress) (here next : Lent O P) (masks : List ℕ) → Along left last p here
       → Moved lists book om pm (length here.regions.base.now) left masks (oh here.order) (oh next.order) (ph here.policy) (ph next.policy) (state_of p here.regions.branch.now here.regions.base.now) (state_of p' next.regions.branch.now next.regions.base.now)
-      → Fit lists p' next.regions.branch.now next.regions.base.now → (last' ≡ Some Decide → Fresh lists book p' next.regions.branch.now next.regions.base.now next.regions.bench.domains.now)
-      → Beyond (length lists) book.count here.regions.bench next.regions.bench
+      → Fit lists p' next.regions.branch.now next.regions.base.now → (last' ≡ Some Decide → Fresh lists book p' next.regions.branch.now next.regions.base.now next.regions.domains.now)
+      → Beyond (length lists) book.count (bench here.regions) (bench next.regions)
       → KeptWords (length lists) p.base_used p'.base_used here.regions.branch.now next.regions.branch.now here.regions.base.now next.regions.base.now
       → next.regions.plan.now ≡ here.regions.plan.now → SameRegions here.regions next.regions → Along (left - 1) last' p' next
   along_more left last last' p p' here next masks a m fit fresh beyond kept plan same =
@@ -160,7 +160,7 @@ module _ {O P H Q : Type 0} (om : OrderMeaning H) (pm : PolicyMeaning Q) (oh : O
         counted = record { moves = counted.moves; closings = counted.closings; restarts = counted.restarts; since = counted.since };
         fit = fit;
         fresh = fresh;
-        beyond = beyond_then (length lists) book.count found.regions.bench here.regions.bench next.regions.bench a.beyond beyond;
+        beyond = beyond_then (length lists) book.count (bench found.regions) (bench here.regions) (bench next.regions) a.beyond beyond;
         kept = kept_then (length lists) p₀.base_used p.base_used p'.base_used found.regions.branch.now here.regions.branch.now next.regions.branch.now found.regions.base.now here.regions.base.now next.regions.base.now a.kept kept;
         plan = plan ∙ a.plan;
         same = same_then found.regions here.regions next.regions a.same same;
@@ -194,10 +194,10 @@ module _ {O P H Q : Type 0} (om : OrderMeaning H) (law : LawfulMeaning om) (pm :
       → state_of p' next.regions.branch.now next.regions.base.now ≡ state_of p here.regions.branch.now here.regions.base.now → oh next.order ≡ oh here.order → ph next.policy ≡ ph here.policy
       → Sits lists book (behaviour om (oh found.order)) (cutoffs pm (ph found.policy)) (length found.regions.base.now) left
       (at (state_of p here.regions.branch.now here.regions.base.now) a.events a.restarts) v (at (state_of p here.regions.branch.now here.regions.base.now) a.events a.restarts)
-      → Leaves lists book (state_of p here.regions.branch.now here.regions.base.now) (take (length lists) next.regions.bench.domains.now)
+      → Leaves lists book (state_of p here.regions.branch.now here.regions.base.now) (take (length lists) next.regions.domains.now)
       ⊎ ((ms : List ℕ) × Leaves lists book (state_of p here.regions.branch.now here.regions.base.now) ms × Dead lists (family ms))
       → Fit lists p' next.regions.branch.now next.regions.base.now
-      → Beyond (length lists) book.count here.regions.bench next.regions.bench
+      → Beyond (length lists) book.count (bench here.regions) (bench next.regions)
       → KeptWords (length lists) p.base_used p'.base_used here.regions.branch.now next.regions.branch.now here.regions.base.now next.regions.base.now
       → ComesTo om pm oh ph book s lists allowance found next v p'
   comes left last p p' here next v a same so sp sits remain fit beyond kept =
@@ -212,7 +212,7 @@ module _ {O P H Q : Type 0} (om : OrderMeaning H) (law : LawfulMeaning om) (pm :
         order = so ∙ a.order;
         policy = sp ∙ a.policy;
         remain = remain;
-        beyond = beyond_then (length lists) book.count found.regions.bench here.regions.bench next.regions.bench a.beyond beyond;
+        beyond = beyond_then (length lists) book.count (bench found.regions) (bench here.regions) (bench next.regions) a.beyond beyond;
         kept = kept_then (length lists) s.at.base_used p.base_used p'.base_used found.regions.branch.now here.regions.branch.now next.regions.branch.now found.regions.base.now here.regions.base.now next.regions.base.now a.kept kept;
         continues = sitting_continues lists book blaw (behaviour om (oh found.order)) (behaves om law (oh found.order)) (cutoffs pm (ph found.policy)) (cuts_off pm plaw (ph found.policy))
             (state_of s.at found.regions.branch.now found.regions.base.now) (request s lists book allowance found) (sitting_stands (request s lists book allowance found) s.at.counts.closings s.at.counts.restarts accepted)

@@ -13,6 +13,7 @@ use Rattle.laws.proofs.Words.{is_branch, is_base}
 use Rattle.search.specs.declared.held.OpenSearch.{OpenSearch}
 use Rattle.propagation.specs.Benches.{Roomy}
 use Rattle.search.specs.Counts.{Counted}
+use Rattle.search.specs.Regions.{bench}
 use Rattle.search.specs.Turns.{Fit}
 use Rattle.search.specs.Sittings.{Lent, request}
 use Rattle.search.specs.Restarts.{recall}
@@ -23,7 +24,7 @@ pub record Ready {O P : Type 0} (book : Meaning) (s : OpenSearch) (lists : List 
   pub searched : s.groups ≡ length lists
   pub fit : Fit lists s.at r.regions.branch.now r.regions.base.now
   pub counted : Counted allowance s.at
-  pub roomy : Roomy (length lists) book.count r.regions.bench
+  pub roomy : Roomy (length lists) book.count (bench r.regions)
   pub plan : length lists ≤ length r.regions.plan.now
 
 -- The used words of a base that passes its test.
@@ -44,16 +45,16 @@ ready book s lists allowance r e =
     let c10 = and_parts (base_fits q) (branch_fits q && work_fits q) (unless_none (base_fits q && (branch_fits q && work_fits q)) 10 n.1.1.0) in
     let base = and_parts (leb s.at.base_used (length r.regions.base.now)) (leb (length r.regions.base.now) 65536) c10.0 in
     let rest = and_parts (branch_fits q) (work_fits q) c10.1 in
-    let work = and_parts (leb s.groups (length r.regions.bench.domains.now) && leb 256 (length r.regions.bench.marks.now)) ((leb (2 * book.count) (length r.regions.bench.ends.now) && leb s.groups (length r.regions.bench.settled.now)) && leb s.groups (length r.regions.plan.now)) rest.1 in
-    let front = and_parts (leb s.groups (length r.regions.bench.domains.now)) (leb 256 (length r.regions.bench.marks.now)) work.0 in
-    let back = and_parts (leb (2 * book.count) (length r.regions.bench.ends.now) && leb s.groups (length r.regions.bench.settled.now)) (leb s.groups (length r.regions.plan.now)) work.1 in
-    let places = and_parts (leb (2 * book.count) (length r.regions.bench.ends.now)) (leb s.groups (length r.regions.bench.settled.now)) back.0 in
+    let work = and_parts (leb s.groups (length r.regions.domains.now) && leb 256 (length r.regions.marks.now)) ((leb (2 * book.count) (length r.regions.ends.now) && leb s.groups (length r.regions.settled.now)) && leb s.groups (length r.regions.plan.now)) rest.1 in
+    let front = and_parts (leb s.groups (length r.regions.domains.now)) (leb 256 (length r.regions.marks.now)) work.0 in
+    let back = and_parts (leb (2 * book.count) (length r.regions.ends.now) && leb s.groups (length r.regions.settled.now)) (leb s.groups (length r.regions.plan.now)) work.1 in
+    let places = and_parts (leb (2 * book.count) (length r.regions.ends.now)) (leb s.groups (length r.regions.settled.now)) back.0 in
     let same : s.groups ≡ length lists = eqb-true s.groups (length lists) agree.1 in
     let moves = leb-true (s.at.counts.moves + allowance) 100000000 (unless_none (leb (s.at.counts.moves + allowance) 100000000) 12 n.1.1.1.1.0) in
     let words = base_words_lem lists (take s.at.base_used r.regions.base.now) (unless_none (is_base_sound q) 16 n.1.1.1.1.1.1.0) in
     let within = s.within in
-    let g1 = leb-true s.groups (length r.regions.bench.domains.now) front.0 in
-    let g2 = leb-true s.groups (length r.regions.bench.settled.now) places.1 in
+    let g1 = leb-true s.groups (length r.regions.domains.now) front.0 in
+    let g2 = leb-true s.groups (length r.regions.settled.now) places.1 in
     let g3 = leb-true s.groups (length r.regions.plan.now) back.1 in
     let g4 = leb-true (64 * s.groups) (length r.regions.branch.now) rest.0 in
     record {
@@ -72,7 +73,7 @@ ready book s lists allowance r e =
         words = words.1;
       };
       counted = record { moves = moves; closings = s.counted.closings; restarts = s.counted.restarts; since = s.counted.since };
-      roomy = record { domains = omega arith; marks = leb-true 256 (length r.regions.bench.marks.now) front.1; ends = leb-true (2 * book.count) (length r.regions.bench.ends.now) places.0; settled = omega arith };
+      roomy = record { domains = omega arith; marks = leb-true 256 (length r.regions.marks.now) front.1; ends = leb-true (2 * book.count) (length r.regions.ends.now) places.0; settled = omega arith };
       plan = omega arith;
     }
 

@@ -21,7 +21,7 @@ use Rattle.search.specs.declared.held.SettledSearch.{SettledSearch}
 use Rattle.search.specs.declared.held.Sat.{Sat}
 use Rattle.search.specs.declared.held.Sat.TheVariants.{Plan as SatPlan, None as SatNone, Open as SatOpen}
 use Rattle.search.specs.declared.regions.Regions.{Regions}
-use Rattle.search.specs.Regions.{sizes}
+use Rattle.search.specs.Regions.{bench, sizes}
 use Rattle.search.specs.Turns.{state_of, KeptWords}
 use Rattle.search.specs.Calls.{asking, opening}
 
@@ -58,9 +58,9 @@ module _ {O P H Q : Type 0} (om : OrderMeaning H) (pm : PolicyMeaning Q) (order_
     pub order : order_holds left.order ≡ held_after om (order_holds found.order) end.events
     pub policy : policy_holds left.policy ≡ moved_on pm (policy_holds found.policy) end.restarts
     -- the domains are what remains, unless the state is dead
-    pub remain : Leaves lists book end.state (take (length lists) left.regions.bench.domains.now) ⊎ ((ms : List ℕ) × Leaves lists book end.state ms × Dead lists (family ms))
+    pub remain : Leaves lists book end.state (take (length lists) left.regions.domains.now) ⊎ ((ms : List ℕ) × Leaves lists book end.state ms × Dead lists (family ms))
     -- what is untouched
-    pub beyond : Beyond (length lists) book.count found.regions.bench left.regions.bench
+    pub beyond : Beyond (length lists) book.count (bench found.regions) (bench left.regions)
     pub kept : KeptWords (length lists) s.at.base_used p.base_used found.regions.branch.now left.regions.branch.now found.regions.base.now left.regions.base.now
     -- every run that came to what was passed goes on to what is left, and the law of runs holds of it
     pub continues : Continues lists book (state_of s.at found.regions.branch.now found.regions.base.now) v end.state

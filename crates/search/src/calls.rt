@@ -11,7 +11,6 @@ use crate::regions::Regions;
 use crate::turns::{Step, turn};
 use crate::vetting::{vet_open, vet_restart, vet_sitting};
 use branching::{Order, RestartPolicy};
-use propagation::bench::Bench;
 use rules::book::RuleBook;
 use rules::refusal::Refusal;
 
@@ -27,14 +26,14 @@ pub fn open<B: RuleBook>(lists: &[u64], book: &B) -> Result<OpenSearch, Refusal>
 }
 
 // Writes the one channel that each group keeps.
-fn write_plan(groups: usize, bench: &Bench<'_>, plan: &mut [u8])
-    requires sized { groups ≤ length bench.now.domains.now }
+fn write_plan(groups: usize, domains: &[u64], plan: &mut [u8])
+    requires sized { groups ≤ length domains.now }
     requires room { groups ≤ length plan.old }
-    ensures written { (g : ℕ) → g < groups → slice_index_or plan.new g 64 ≡ count_trailing_zeros 64 (slice_index bench.now.domains.now g) }
-    ensures fits { (g : ℕ) → g < groups → slice_index bench.now.domains.now g < 2 ^ 64 }
+    ensures written { (g : ℕ) → g < groups → slice_index_or plan.new g 64 ≡ count_trailing_zeros 64 (slice_index domains.now g) }
+    ensures fits { (g : ℕ) → g < groups → slice_index domains.now g < 2 ^ 64 }
     ensures beyond { drop groups plan.new ≡ drop groups plan.old }
 {
-    for (group, domain) in bench.domains[..groups].iter().enumerate() {
+    for (group, domain) in domains[..groups].iter().enumerate() {
         plan[group] = domain.trailing_zeros() as u8;
     }
 }
@@ -63,8 +62,9 @@ pub fn sitting<B: RuleBook, O: Order, P: RestartPolicy>(
         match turn(last, lists, book, order, policy, left, &mut at, regions) {
             Step::None => return Ok(Sat::None(SettledSearch { counts: at.counts })),
             Step::Plan => {
+                let domains = &mut *regions.domains;
                 let plan = &mut *regions.plan;
-                write_plan(lists.len(), &regions.bench, plan);
+                write_plan(lists.len(), domains, plan);
                 return Ok(Sat::Plan(SettledSearch { counts: at.counts }));
             }
             Step::Spent => return Ok(Sat::Open(OpenSearch { groups, at })),

@@ -2,10 +2,10 @@
 ghost use Rattle.std.specs.Prelude.{◌≡◌, ℕ, ◌+◌, ◌*◌, ◌<◌, ◌≤◌, true, false, List, length, take, drop, Some, OnOk, OnErr};
 ghost use Rattle.branching.specs.Channels.{Open};
 ghost use Rattle.model.specs.Words.{branch_of, base_of, recorded};
-ghost use Rattle.propagation.specs.Benches.{SameRegions as SameBench, Roomy, Beyond};
+ghost use Rattle.propagation.specs.Benches.{Roomy, Beyond};
 ghost use Rattle.propagation.specs.Filtered.{Lives, Dies};
 ghost use Rattle.search.specs.Counts.{Counted};
-ghost use Rattle.search.specs.Regions.{SameRegions};
+ghost use Rattle.search.specs.Regions.{bench, SameRegions};
 ghost use Rattle.search.specs.Turns.{state_of, Fit, DueAt, DeadTurn, AliveTurn, KeptWords, Fresh, Turned};
 
 use crate::held::Progress;
@@ -16,6 +16,7 @@ use branching::{Order, RestartPolicy};
 use propagation::bench::{Bench, Dead};
 use propagation::decision::propagate_decision;
 use propagation::filter::propagate;
+use propagation::records::{Assignment, RuleEnd};
 use rules::book::RuleBook;
 
 // The moves of a search.
@@ -80,26 +81,26 @@ fn turn_alive<O: Order, P: RestartPolicy>(
     left: u32,
     at: &mut Progress,
     groups: usize,
-    bench: &Bench<'_>,
+    domains: &[u64],
     branch: &mut [u32],
     base: &mut [u32],
 ) -> Step
     requires few { groups ≤ 200 }
-    requires sized { groups ≤ length bench.now.domains.now }
+    requires sized { groups ≤ length domains.now }
     requires within { at.old.branch_len ≤ 64 * groups }
     requires room { 64 * groups ≤ length branch.old }
-    requires spare { ((g : ℕ) × Open (take groups bench.now.domains.now) g) → at.old.branch_len < 64 * groups }
+    requires spare { ((g : ℕ) × Open (take groups domains.now) g) → at.old.branch_len < 64 * groups }
     requires used { at.old.base_used ≤ length base.old }
     requires short { length base.old ≤ 65536 }
     requires words { take at.old.base_used base.old ≡ recorded (base_of (take at.old.base_used base.old)) }
     requires counted { Counted left at.old }
-    ensures turn { AliveTurn O.Order.meaning P.RestartPolicy.meaning (length base.old) left (take groups bench.now.domains.now) (O.Order.held order.old) (O.Order.held order.new) (P.RestartPolicy.held policy.old) (P.RestartPolicy.held policy.new) (state_of at.old branch.old base.old) (state_of at.new branch.new base.new) result }
+    ensures turn { AliveTurn O.Order.meaning P.RestartPolicy.meaning (length base.old) left (take groups domains.now) (O.Order.held order.old) (O.Order.held order.new) (P.RestartPolicy.held policy.old) (P.RestartPolicy.held policy.new) (state_of at.old branch.old base.old) (state_of at.new branch.new base.new) result }
     ensures within { at.new.branch_len ≤ 64 * groups }
     ensures used { at.new.base_used ≤ length base.new }
     ensures words { take at.new.base_used base.new ≡ recorded (base_of (take at.new.base_used base.new)) }
     ensures kept { KeptWords groups at.old.base_used at.new.base_used branch.old branch.new base.old base.new }
 {
-    let domains = &bench.domains[..groups];
+    let domains = &domains[..groups];
     if !some_wide(domains) {
         return Step::Plan;
     }
@@ -122,23 +123,31 @@ fn refresh<B: RuleBook>(
     at: &Progress,
     branch: &[u32],
     base: &[u32],
-    bench: &mut Bench<'_>,
+    domains: &mut [u64],
+    marks: &mut [u32],
+    ends: &mut [RuleEnd],
+    settled: &mut [Assignment],
 ) -> Result<(), Dead>
     requires fit { Fit lists.now at.now branch.now base.now }
     requires groups { (B.meaning book.now).groups ≡ length lists.now }
     requires rules { (B.meaning book.now).count ≤ 4096 }
-    requires roomy { Roomy (length lists.now) (B.meaning book.now).count bench.old }
-    requires fresh { last ≡ Some Move.Decide → Fresh lists.now (B.meaning book.now) at.now branch.now base.now bench.old.domains.now }
-    ensures same { SameBench bench.old bench.new }
+    requires roomy { (length lists.now ≤ length domains.old) × (256 ≤ length marks.old) × (2 * (B.meaning book.now).count ≤ length ends.old) × (length lists.now ≤ length settled.old) }
+    requires fresh { last ≡ Some Move.Decide → Fresh lists.now (B.meaning book.now) at.now branch.now base.now domains.old }
     ensures dead { OnErr result (Dies lists.now (B.meaning book.now) (base_of (take at.now.base_used base.now)) (branch_of branch.now at.now.branch_len)) }
-    ensures lives { OnOk result (Lives lists.now (B.meaning book.now) (base_of (take at.now.base_used base.now)) (branch_of branch.now at.now.branch_len) (take (length lists.now) bench.new.domains.now)) }
-    ensures beyond { Beyond (length lists.now) (B.meaning book.now).count bench.old bench.new }
+    ensures lives { OnOk result (Lives lists.now (B.meaning book.now) (base_of (take at.now.base_used base.now)) (branch_of branch.now at.now.branch_len) (take (length lists.now) domains.new)) }
+    ensures beyond { (drop (length lists.now) domains.new ≡ drop (length lists.now) domains.old) × (drop 256 marks.new ≡ drop 256 marks.old) × (drop (2 * (B.meaning book.now).count) ends.new ≡ drop (2 * (B.meaning book.now).count) ends.old) × (drop (length lists.now) settled.new ≡ drop (length lists.now) settled.old) }
 {
     let branch = &branch[..at.branch_len as usize];
     let base = &base[..at.base_used as usize];
+    let mut bench = Bench {
+        domains,
+        marks,
+        ends,
+        settled,
+    };
     match last {
-        Some(Move::Decide) => propagate_decision(lists, book, branch, base, bench),
-        _ => propagate(lists, book, branch, base, bench),
+        Some(Move::Decide) => propagate_decision(lists, book, branch, base, &mut bench),
+        _ => propagate(lists, book, branch, base, &mut bench),
     }
 }
 
@@ -157,30 +166,33 @@ pub(crate) fn turn<B: RuleBook, O: Order, P: RestartPolicy>(
     requires counted { Counted left at.old }
     requires groups { (B.RuleBook.meaning book.now).groups ≡ length lists.now }
     requires rules { (B.RuleBook.meaning book.now).count ≤ 4096 }
-    requires roomy { Roomy (length lists.now) (B.RuleBook.meaning book.now).count regions.old.bench }
-    requires fresh { last ≡ Some Move.Decide → Fresh lists.now (B.RuleBook.meaning book.now) at.old regions.old.branch.now regions.old.base.now regions.old.bench.domains.now }
+    requires roomy { Roomy (length lists.now) (B.RuleBook.meaning book.now).count (bench regions.old) }
+    requires fresh { last ≡ Some Move.Decide → Fresh lists.now (B.RuleBook.meaning book.now) at.old regions.old.branch.now regions.old.base.now regions.old.domains.now }
     ensures same { SameRegions regions.old regions.new }
-    ensures turned { Turned lists.now (B.RuleBook.meaning book.now) O.Order.meaning P.RestartPolicy.meaning (length regions.old.base.now) left (take (length lists.now) regions.new.bench.domains.now) (O.Order.held order.old) (O.Order.held order.new) (P.RestartPolicy.held policy.old) (P.RestartPolicy.held policy.new) (state_of at.old regions.old.branch.now regions.old.base.now) (state_of at.new regions.new.branch.now regions.new.base.now) result }
+    ensures turned { Turned lists.now (B.RuleBook.meaning book.now) O.Order.meaning P.RestartPolicy.meaning (length regions.old.base.now) left (take (length lists.now) regions.new.domains.now) (O.Order.held order.old) (O.Order.held order.new) (P.RestartPolicy.held policy.old) (P.RestartPolicy.held policy.new) (state_of at.old regions.old.branch.now regions.old.base.now) (state_of at.new regions.new.branch.now regions.new.base.now) result }
     ensures fit { Fit lists.now at.new regions.new.branch.now regions.new.base.now }
-    ensures fresh { result ≡ Step.Made Move.Decide → Fresh lists.now (B.RuleBook.meaning book.now) at.new regions.new.branch.now regions.new.base.now regions.new.bench.domains.now }
-    ensures beyond { Beyond (length lists.now) (B.RuleBook.meaning book.now).count regions.old.bench regions.new.bench }
+    ensures fresh { result ≡ Step.Made Move.Decide → Fresh lists.now (B.RuleBook.meaning book.now) at.new regions.new.branch.now regions.new.base.now regions.new.domains.now }
+    ensures beyond { Beyond (length lists.now) (B.RuleBook.meaning book.now).count (bench regions.old) (bench regions.new) }
     ensures kept { KeptWords (length lists.now) at.old.base_used at.new.base_used regions.old.branch.now regions.new.branch.now regions.old.base.now regions.new.base.now }
     ensures plan { regions.new.plan.now ≡ regions.old.plan.now }
 {
     let branch = &mut *regions.branch;
     let base = &mut *regions.base;
-    let bench = &mut regions.bench;
-    if let Err(Dead) = refresh(last, lists, book, at, branch, base, bench) {
-        return turn_dead(order, left, at, branch);
-    }
-    turn_alive(
-        order,
-        policy,
-        left,
+    let domains = &mut *regions.domains;
+    let remains = refresh(
+        last,
+        lists,
+        book,
         at,
-        lists.len(),
-        &regions.bench,
         branch,
         base,
-    )
+        domains,
+        regions.marks,
+        regions.ends,
+        regions.settled,
+    );
+    if let Err(Dead) = remains {
+        return turn_dead(order, left, at, branch);
+    }
+    turn_alive(order, policy, left, at, lists.len(), domains, branch, base)
 }

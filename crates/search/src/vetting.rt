@@ -23,12 +23,11 @@ use rules::refusal::Refusal;
 
 // Whether the regions that a sitting only writes are large enough for so many groups and rules.
 fn work_fits(regions: &Regions<'_>, groups: u16, rules: u32) -> bool
-    ensures { result ≡ ((nat_le groups (length regions.now.bench.domains.now) && nat_le 256 (length regions.now.bench.marks.now)) && ((nat_le (2 * rules) (length regions.now.bench.ends.now) && nat_le groups (length regions.now.bench.settled.now)) && nat_le groups (length regions.now.plan.now))) }
+    ensures { result ≡ ((nat_le groups (length regions.now.domains.now) && nat_le 256 (length regions.now.marks.now)) && ((nat_le (2 * rules) (length regions.now.ends.now) && nat_le groups (length regions.now.settled.now)) && nat_le groups (length regions.now.plan.now))) }
 {
     let n = groups as usize;
-    let bench = &regions.bench;
-    (n <= bench.domains.len() && 256 <= bench.marks.len())
-        && ((2 * rules as usize <= bench.ends.len() && n <= bench.settled.len())
+    (n <= regions.domains.len() && 256 <= regions.marks.len())
+        && ((2 * rules as usize <= regions.ends.len() && n <= regions.settled.len())
             && n <= regions.plan.len())
 }
 

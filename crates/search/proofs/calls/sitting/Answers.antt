@@ -60,7 +60,7 @@ moves-preserved g c =
     let here = lent c.moves.regions c.moves.order c.moves.policy in
     let next = lent c.turn.new.regions c.turn.new.order c.turn.new.policy in
     along_more g.O.Order.meaning g.P.RestartPolicy.meaning g.O.Order.held g.P.RestartPolicy.held (g.B.RuleBook.meaning c.args.book.now) lists c.args.allowance c.args.search.at found
-    c.moves.left c.moves.last (Some c.in-Made.made) c.moves.at c.turn.new.at here next (take (length lists) c.turn.new.regions.bench.domains.now) c.moves.invariant
+    c.moves.left c.moves.last (Some c.in-Made.made) c.moves.at c.turn.new.at here next (take (length lists) c.turn.new.regions.domains.now) c.moves.invariant
     e.turned e.fit (λ q. e.fresh (search rules)) e.beyond e.kept e.plan e.same
 
 pub returns-in-None-clause-answers : goal.returns-in-None-clause-answers
@@ -130,7 +130,7 @@ returns-in-Plan-clause-answers g c =
     let found = lent c.args.regions.now c.args.order.now c.args.policy.now in
     let here = lent c.moves.regions c.moves.order c.moves.policy in
     let y = ready (g.B.RuleBook.meaning c.args.book.now) c.args.search lists c.args.allowance found c.in_default.ensures in
-    let ds = c.turn.new.regions.bench.domains.now in
+    let ds = c.turn.new.regions.domains.now in
     let xs = c.write_plan.new.plan in
     let masks = take (length lists) ds in
     let roomy : length lists ≤ length xs = omega (arith, y.plan, ap length e.plan, ap length i.plan, c.write_plan.auto.plan) in

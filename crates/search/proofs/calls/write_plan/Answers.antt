@@ -7,7 +7,7 @@ use Rattle.search.proofs.calls.write_plan.Goals as goal
 pub loop-group-preserved : goal.loop-group-preserved
 loop-group-preserved c =
     let xs = c.loop-group.plan in
-    let ds = c.args.bench.now.domains.now in
+    let ds = c.args.domains.now in
     let i = c.loop-group.group in
     let n = c.args.groups in
     let v = count_trailing_zeros 64 (get_or (take n ds) i 0) in

@@ -4,6 +4,6 @@ use Rattle.search.proofs.calls.write_plan.Given as goal
 
 abbrev pub invariant-loop-group : goal.invariant-loop-group
 invariant-loop-group l =
-    ((g : ℕ) → g < l.group → get_or l.plan g 64 ≡ count_trailing_zeros 64 (get_or l.bench.domains.now g 0))
-    × ((g : ℕ) → g < l.group → get_or l.bench.domains.now g 0 < 2 ^ 64)
+    ((g : ℕ) → g < l.group → get_or l.plan g 64 ≡ count_trailing_zeros 64 (get_or l.domains g 0))
+    × ((g : ℕ) → g < l.group → get_or l.domains g 0 < 2 ^ 64)
     × (drop l.groups l.plan ≡ drop l.groups l.initial.plan)

@@ -19,7 +19,7 @@ propagate_decision-requires-clause-before g c =
     let some = fresh.some in
     let inside : n ≤ length ws = omega (arith, f.branch_in, f.branch_room) in
     let before : branch_of (take n ws) (length (take n ws) - 1) ≡ branch_of ws (n - 1) = ap (λ k. branch_of (take n ws) (k - 1)) (front_length ws n inside) ∙ front_branch ws n inside (n - 1) (omega arith) in
-    subst (λ ds. Lives lists (g.B.RuleBook.meaning c.args.book.now) (base_of (take p.base_used c.args.base.now)) ds (take (length lists) c.args.bench.now.domains.now)) (sym before) fresh.before
+    subst (λ ds. Lives lists (g.B.RuleBook.meaning c.args.book.now) (base_of (take p.base_used c.args.base.now)) ds (take (length lists) c.args.domains.now)) (sym before) fresh.before
 
 pub propagate-requires-clause-decided : goal.propagate-requires-clause-decided
 propagate-requires-clause-decided g c i h =
@@ -43,14 +43,6 @@ returns-in-Some-Decide-clause-dead g c =
     subst (λ ds. OnErr c.propagate_decision.result (Dies c.args.lists.now (g.B.RuleBook.meaning c.args.book.now) (base_of (take p.base_used c.args.base.now)) ds))
     (whole_branch c.args.branch.now p.branch_len (omega (arith, f.branch_in, f.branch_room))) c.propagate_decision.ensures.dead
 
-pub returns-in-Some-Decide-clause-lives : goal.returns-in-Some-Decide-clause-lives
-returns-in-Some-Decide-clause-lives g c =
-    let p = c.args.at.now in
-    let f = c.requires.fit in
-    let lists = c.args.lists.now in
-    subst (λ ds. OnOk c.propagate_decision.result (Lives lists (g.B.RuleBook.meaning c.args.book.now) (base_of (take p.base_used c.args.base.now)) ds (take (length lists) c.propagate_decision.new.bench.domains.now)))
-    (whole_branch c.args.branch.now p.branch_len (omega (arith, f.branch_in, f.branch_room))) c.propagate_decision.ensures.lives
-
 pub returns-in_default-clause-dead : goal.returns-in_default-clause-dead
 returns-in_default-clause-dead g c =
     let p = c.args.at.now in
@@ -58,10 +50,12 @@ returns-in_default-clause-dead g c =
     subst (λ ds. OnErr c.propagate.result (Dies c.args.lists.now (g.B.RuleBook.meaning c.args.book.now) (base_of (take p.base_used c.args.base.now)) ds))
     (whole_branch c.args.branch.now p.branch_len (omega (arith, f.branch_in, f.branch_room))) c.propagate.ensures.dead
 
+pub returns-in-Some-Decide-clause-lives : goal.returns-in-Some-Decide-clause-lives
+returns-in-Some-Decide-clause-lives g c =
+    let f = c.requires.fit in
+    rw (sym (whole_branch c.args.branch.now c.args.at.now.branch_len (omega (arith, f.branch_in, f.branch_room)))) (search rules)
+
 pub returns-in_default-clause-lives : goal.returns-in_default-clause-lives
 returns-in_default-clause-lives g c =
-    let p = c.args.at.now in
     let f = c.requires.fit in
-    let lists = c.args.lists.now in
-    subst (λ ds. OnOk c.propagate.result (Lives lists (g.B.RuleBook.meaning c.args.book.now) (base_of (take p.base_used c.args.base.now)) ds (take (length lists) c.propagate.new.bench.domains.now)))
-    (whole_branch c.args.branch.now p.branch_len (omega (arith, f.branch_in, f.branch_room))) c.propagate.ensures.lives
+    rw (sym (whole_branch c.args.branch.now c.args.at.now.branch_len (omega (arith, f.branch_in, f.branch_room)))) (search rules)

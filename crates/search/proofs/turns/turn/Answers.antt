@@ -25,13 +25,13 @@ returns-in-Err g c =
     let q = g.P.RestartPolicy.held c.args.policy.now in
     let f = c.requires.fit in
     let d = c.turn_dead.ensures in
-    let masks = take (length lists) c.refresh.new.bench.domains.now in
+    let masks = take (length lists) c.refresh-remains.new.domains in
     let t = turned_dead lists m om pm (length bs) c.args.left masks h h' q q s s' c.turn_dead.result (d.turn bs) (dead_masks lists m law s (c.in-Err.ensures.dead)) refl in
     let w = turned_whole lists m om pm (length bs) c.args.left masks h h' q q s s' g.met.O.Order.lawful g.met.P.RestartPolicy.lawful c.turn_dead.result t (fit_whole lists p ws bs f) in
     let used = d.used in
     let kept = c.turn_dead.auto.branch in
     record {
-      same = record { bench = c.refresh.ensures.same; branch = refl; plan = refl; base = refl; branch_size = kept; plan_size = refl; base_size = refl };
+      same = record { bench = record { domains = refl; marks = refl; ends = refl; settled = refl; domains_size = c.refresh-remains.auto.domains; marks_size = c.refresh-remains.auto.marks; ends_size = c.refresh-remains.auto.ends; settled_size = c.refresh-remains.auto.settled }; branch = refl; plan = refl; base = refl; branch_size = kept; plan_size = refl; base_size = refl };
       plan = refl;
       turned = t;
       fit = record {
@@ -46,7 +46,7 @@ returns-in-Err g c =
         words = ap (λ k. take k bs) used ∙ f.words ∙ ap (λ k. recorded (base_of (take k bs))) (sym used);
       };
       fresh = λ e. absurd (not_decided om pm (length bs) c.args.left h h' q q s s' c.turn_dead.result (d.turn bs) e);
-      beyond = c.refresh.ensures.beyond;
+      beyond = (let b = c.refresh-remains.ensures.beyond in record { domains = b.0; marks = b.1; ends = b.2; settled = b.3 });
       kept = record {
         branch = past_more ws ws' p.branch_len (64 * length lists) f.branch_in d.past;
         grown = omega (arith, used);
@@ -62,8 +62,8 @@ turn_alive-requires g c =
     let ws = c.args.regions.now.branch.now in
     let bs = c.args.regions.now.base.now in
     let f = c.requires.fit in
-    let ds = c.refresh.new.bench.domains.now in
-    let inside : length lists ≤ length ds = omega (arith, c.refresh.ensures.same.domains_size, c.requires.roomy.domains) in
+    let ds = c.refresh-remains.new.domains in
+    let inside : length lists ≤ length ds = omega (arith, c.refresh-remains.auto.domains, c.requires.roomy.domains) in
     let lives = c.in_default.ensures.lives in
     let leaves = live_masks lists m (state_of p ws bs) (take (length lists) ds) (length-take-le (length lists) ds inside) lives in
     record {
@@ -101,8 +101,8 @@ returns g c =
     let q' = g.P.RestartPolicy.held c.turn_alive.new.policy in
     let f = c.requires.fit in
     let d = c.turn_alive.ensures in
-    let ds = c.refresh.new.bench.domains.now in
-    let inside : length lists ≤ length ds = omega (arith, c.refresh.ensures.same.domains_size, c.requires.roomy.domains) in
+    let ds = c.refresh-remains.new.domains in
+    let inside : length lists ≤ length ds = omega (arith, c.refresh-remains.auto.domains, c.requires.roomy.domains) in
     let masks = take (length lists) ds in
     let lives = c.in_default.ensures.lives in
     let leaves = live_masks lists m s masks (length-take-le (length lists) ds inside) lives in
@@ -110,7 +110,7 @@ returns g c =
     let t = turned_alive lists m om pm (length bs) c.args.left masks h h' q q' s s' c.turn_alive.result a leaves lives.alive in
     let w = turned_whole lists m om pm (length bs) c.args.left masks h h' q q' s s' g.met.O.Order.lawful g.met.P.RestartPolicy.lawful c.turn_alive.result t (fit_whole lists p ws bs f) in
     record {
-      same = record { bench = c.refresh.ensures.same; branch = refl; plan = refl; base = refl; branch_size = c.turn_alive.auto.branch; plan_size = refl; base_size = c.turn_alive.auto.base };
+      same = record { bench = record { domains = refl; marks = refl; ends = refl; settled = refl; domains_size = c.refresh-remains.auto.domains; marks_size = c.refresh-remains.auto.marks; ends_size = c.refresh-remains.auto.ends; settled_size = c.refresh-remains.auto.settled }; branch = refl; plan = refl; base = refl; branch_size = c.turn_alive.auto.branch; plan_size = refl; base_size = c.turn_alive.auto.base };
       plan = refl;
       turned = t;
       fit = record {
@@ -125,7 +125,7 @@ returns g c =
         words = d.words;
       };
       fresh = λ e. let k = decided_state om pm (length bs) c.args.left h h' q q' s s' c.turn_alive.result masks a e in fresh_from lists m p p' ws ws' bs bs' ds k.0 k.1 lives;
-      beyond = c.refresh.ensures.beyond;
+      beyond = (let b = c.refresh-remains.ensures.beyond in record { domains = b.0; marks = b.1; ends = b.2; settled = b.3 });
       kept = record {
         branch = d.kept.branch;
         grown = d.kept.grown;
