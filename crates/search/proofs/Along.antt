@@ -12,8 +12,8 @@ use Rattle.branching.specs.Bits.{trailing_lowest, two_count, none_has}
 use Rattle.model.specs.Remains.{family, Dead, Alive, Single}
 use Rattle.model.specs.Words.{recorded}
 use Rattle.model.specs.Moves.{State}
-use Rattle.propagation.specs.declared.bench.Bench.{Bench}
-use Rattle.propagation.specs.Benches.{Beyond}
+use Rattle.propagation.specs.declared.records.RuleEnd.{RuleEnd}
+use Rattle.propagation.specs.declared.records.Assignment.{Assignment}
 use Rattle.laws.specs.Orders.{Order, Policy, Event, asked, channel_asked, told, held_after, behaviour, moved_on, cutoffs}
 use Rattle.laws.specs.Sittings.{Search, begun, Verdict, Leaves, Turn, close, restart, decide, Sits}
 use Rattle.laws.specs.Requests.{sitting_refusal}
@@ -34,8 +34,8 @@ use Rattle.search.specs.declared.regions.Regions.{Regions}
 use Rattle.search.specs.declared.turns.Move.{Move}
 use Rattle.search.specs.declared.turns.Move.TheVariants.{Decide}
 use Rattle.search.specs.Counts.{Counted}
-use Rattle.search.specs.Regions.{bench, SameRegions, Sizes}
-use Rattle.search.specs.Turns.{state_of, Fit, Fresh, KeptWords, Moved}
+use Rattle.search.specs.Regions.{SameRegions, Sizes}
+use Rattle.search.specs.Turns.{state_of, Fit, Fresh, Beyond, KeptWords, Moved}
 
 -- The search at a state, with the events and restarts of the call so far.
 abbrev pub at : State → List Event → ℕ → Search
@@ -78,24 +78,22 @@ room_turn lists book order policy room left s t l (close masks v d some) r = rec
 room_turn lists book order policy room left s t l (restart masks v a w due) r = record { moves = let a = r.moves in omega arith; closings = let a = r.closings in omega arith; restarts = let a = r.restarts in omega arith; since = omega arith }
 room_turn lists book order policy room left s t l (decide masks v a w nd g c eg ec) r = record { moves = let a = r.moves in omega arith; closings = let a = r.closings in omega arith; restarts = let a = r.restarts in omega arith; since = r.since }
 
-pub beyond_then : (n r : ℕ) (a b c : Bench) → Beyond n r a b → Beyond n r b c → Beyond n r a c
-beyond_then n r a b c x y = record { domains = y.domains ∙ x.domains; marks = y.marks ∙ x.marks; ends = y.ends ∙ x.ends; settled = y.settled ∙ x.settled }
+pub beyond_then : {n r : ℕ} {a b c d e f : List ℕ} {g h i : List RuleEnd} {j k l : List Assignment} → Beyond n r a b d e g h j k → Beyond n r b c e f h i k l → Beyond n r a c d f g i j l
+beyond_then x y = record { domains = y.domains ∙ x.domains; marks = y.marks ∙ x.marks; ends = y.ends ∙ x.ends; settled = y.settled ∙ x.settled }
 
 pub same_then : (a b c : Regions) → SameRegions a b → SameRegions b c → SameRegions a c
 same_then a b c x y = record {
-  bench = record {
-    domains = y.bench.domains ∙ x.bench.domains;
-    marks = y.bench.marks ∙ x.bench.marks;
-    ends = y.bench.ends ∙ x.bench.ends;
-    settled = y.bench.settled ∙ x.bench.settled;
-    domains_size = y.bench.domains_size ∙ x.bench.domains_size;
-    marks_size = y.bench.marks_size ∙ x.bench.marks_size;
-    ends_size = y.bench.ends_size ∙ x.bench.ends_size;
-    settled_size = y.bench.settled_size ∙ x.bench.settled_size;
-  };
+  domains = y.domains ∙ x.domains;
+  marks = y.marks ∙ x.marks;
+  ends = y.ends ∙ x.ends;
+  settled = y.settled ∙ x.settled;
   branch = y.branch ∙ x.branch;
   plan = y.plan ∙ x.plan;
   base = y.base ∙ x.base;
+  domains_size = y.domains_size ∙ x.domains_size;
+  marks_size = y.marks_size ∙ x.marks_size;
+  ends_size = y.ends_size ∙ x.ends_size;
+  settled_size = y.settled_size ∙ x.settled_size;
   branch_size = y.branch_size ∙ x.branch_size;
   plan_size = y.plan_size ∙ x.plan_size;
   base_size = y.base_size ∙ x.base_size;
@@ -111,7 +109,7 @@ kept_then n u v w a b c d e f x y =
 
 module _ {O P H Q : Type 0} (om : OrderMeaning H) (pm : PolicyMeaning Q) (oh : O → H) (ph : P → Q) (book : Meaning) (lists : List ℕ) (allowance : ℕ) (p₀ : Progress) (found : Lent O P) where
   abbrev pub FromStart : ℕ → Search → Type 0
-  FromStart left t = Onward lists book (behaviour om (oh found.order)) (cutoffs pm (ph found.policy)) (length found.regions.base.now) allowance (begun (state_of p₀ found.regions.branch.now found.regions.base.now)) left t
+  FromStart left t = Onward lists book (behaviour om (oh found.order)) (cutoffs pm (ph found.policy)) (length found.base) allowance (begun (state_of p₀ found.branch found.base)) left t
 
   -- After some moves, with so many left.
   pub record Along (left : ℕ) (last : Option Move) (p : Progress) (here : Lent O P) : Type 0 where
@@ -119,51 +117,51 @@ module _ {O P H Q : Type 0} (om : OrderMeaning H) (pm : PolicyMeaning Q) (oh : O
     pub restarts : ℕ
     pub order : oh here.order ≡ held_after om (oh found.order) events
     pub policy : ph here.policy ≡ moved_on pm (ph found.policy) restarts
-    pub onward : FromStart left (at (state_of p here.regions.branch.now here.regions.base.now) events restarts)
+    pub onward : FromStart left (at (state_of p here.branch here.base) events restarts)
     pub counted : Counted left p
-    pub fit : Fit lists p here.regions.branch.now here.regions.base.now
-    pub fresh : last ≡ Some Decide → Fresh lists book p here.regions.branch.now here.regions.base.now here.regions.domains.now
-    pub beyond : Beyond (length lists) book.count (bench found.regions) (bench here.regions)
-    pub kept : KeptWords (length lists) p₀.base_used p.base_used found.regions.branch.now here.regions.branch.now found.regions.base.now here.regions.base.now
-    pub plan : here.regions.plan.now ≡ found.regions.plan.now
-    pub same : SameRegions found.regions here.regions
+    pub fit : Fit lists p here.branch here.base
+    pub fresh : last ≡ Some Decide → Fresh lists book p here.branch here.base here.domains
+    pub beyond : Beyond (length lists) book.count found.domains here.domains found.marks here.marks found.ends here.ends found.settled here.settled
+    pub kept : KeptWords (length lists) p₀.base_used p.base_used found.branch here.branch found.base here.base
+    pub plan : here.plan ≡ found.plan
+    pub room : length here.base ≡ length found.base
 
   -- One move more.
   pub along_more : (left : ℕ) (last last' : Option Move) (p p' : Progress) (here next : Lent O P) (masks : List ℕ) → Along left last p here
-      → Moved lists book om pm (length here.regions.base.now) left masks (oh here.order) (oh next.order) (ph here.policy) (ph next.policy) (state_of p here.regions.branch.now here.regions.base.now) (state_of p' next.regions.branch.now next.regions.base.now)
-      → Fit lists p' next.regions.branch.now next.regions.base.now → (last' ≡ Some Decide → Fresh lists book p' next.regions.branch.now next.regions.base.now next.regions.domains.now)
-      → Beyond (length lists) book.count (bench here.regions) (bench next.regions)
-      → KeptWords (length lists) p.base_used p'.base_used here.regions.branch.now next.regions.branch.now here.regions.base.now next.regions.base.now
-      → next.regions.plan.now ≡ here.regions.plan.now → SameRegions here.regions next.regions → Along (left - 1) last' p' next
-  along_more left last last' p p' here next masks a m fit fresh beyond kept plan same =
-      let s = state_of p here.regions.branch.now here.regions.base.now in
+      → Moved lists book om pm (length here.base) left masks (oh here.order) (oh next.order) (ph here.policy) (ph next.policy) (state_of p here.branch here.base) (state_of p' next.branch next.base)
+      → Fit lists p' next.branch next.base → (last' ≡ Some Decide → Fresh lists book p' next.branch next.base next.domains)
+      → Beyond (length lists) book.count here.domains next.domains here.marks next.marks here.ends next.ends here.settled next.settled
+      → KeptWords (length lists) p.base_used p'.base_used here.branch next.branch here.base next.base
+      → next.plan ≡ here.plan → length next.base ≡ length here.base → Along (left - 1) last' p' next
+  along_more left last last' p p' here next masks a m fit fresh beyond kept plan long =
+      let s = state_of p here.branch here.base in
       let h = oh found.order in
       let q = ph found.policy in
       let t = m.next in
-      let turn : Turn lists book (behaviour om (held_after om h a.events)) (cutoffs pm (moved_on pm q a.restarts)) (length found.regions.base.now) (begun s) t =
-      subst (λ (r : ℕ). Turn lists book (behaviour om (held_after om h a.events)) (cutoffs pm (moved_on pm q a.restarts)) r (begun s) t) a.same.base_size
-      (subst (λ (k : Q). Turn lists book (behaviour om (held_after om h a.events)) (cutoffs pm k) (length here.regions.base.now) (begun s) t) a.policy
-      (subst (λ (k : H). Turn lists book (behaviour om k) (cutoffs pm (ph here.policy)) (length here.regions.base.now) (begun s) t) a.order m.turn)) in
-      let moved = shift lists book om pm (length found.regions.base.now) h q a.events a.restarts s t turn in
+      let turn : Turn lists book (behaviour om (held_after om h a.events)) (cutoffs pm (moved_on pm q a.restarts)) (length found.base) (begun s) t =
+      subst (λ (r : ℕ). Turn lists book (behaviour om (held_after om h a.events)) (cutoffs pm (moved_on pm q a.restarts)) r (begun s) t) a.room
+      (subst (λ (k : Q). Turn lists book (behaviour om (held_after om h a.events)) (cutoffs pm k) (length here.base) (begun s) t) a.policy
+      (subst (λ (k : H). Turn lists book (behaviour om k) (cutoffs pm (ph here.policy)) (length here.base) (begun s) t) a.order m.turn)) in
+      let moved = shift lists book om pm (length found.base) h q a.events a.restarts s t turn in
       let pos = m.allowed in
       let one : left ≡ suc (left - 1) = omega arith in
       let from : FromStart (suc (left - 1)) (at s a.events a.restarts) = subst (λ (k : ℕ). FromStart k (at s a.events a.restarts)) one a.onward in
       let counts : Room left s = record { moves = a.counted.moves; closings = a.counted.closings; restarts = a.counted.restarts; since = a.counted.since } in
-      let counted = subst (Room (left - 1)) (sym m.state) (room_turn lists book (behaviour om h) (cutoffs pm q) (length found.regions.base.now) left (at s a.events a.restarts) _ pos moved counts) in
+      let counted = subst (Room (left - 1)) (sym m.state) (room_turn lists book (behaviour om h) (cutoffs pm q) (length found.base) left (at s a.events a.restarts) _ pos moved counts) in
       record {
         events = t.events ++ a.events;
         restarts = t.restarts + a.restarts;
         order = m.order ∙ ap (λ k. held_after om k t.events) a.order ∙ held_append om h a.events t.events;
         policy = m.policy ∙ ap (λ k. moved_on pm k t.restarts) a.policy ∙ moved_append pm q a.restarts t.restarts;
         onward = subst (λ (x : State). FromStart (left - 1) (at x (t.events ++ a.events) (t.restarts + a.restarts))) (sym m.state)
-            (onward_more lists book (behaviour om h) (cutoffs pm q) (length found.regions.base.now) allowance (begun (state_of p₀ found.regions.branch.now found.regions.base.now)) (left - 1) (at s a.events a.restarts) _ from moved);
+            (onward_more lists book (behaviour om h) (cutoffs pm q) (length found.base) allowance (begun (state_of p₀ found.branch found.base)) (left - 1) (at s a.events a.restarts) _ from moved);
         counted = record { moves = counted.moves; closings = counted.closings; restarts = counted.restarts; since = counted.since };
         fit = fit;
         fresh = fresh;
-        beyond = beyond_then (length lists) book.count (bench found.regions) (bench here.regions) (bench next.regions) a.beyond beyond;
-        kept = kept_then (length lists) p₀.base_used p.base_used p'.base_used found.regions.branch.now here.regions.branch.now next.regions.branch.now found.regions.base.now here.regions.base.now next.regions.base.now a.kept kept;
+        beyond = beyond_then a.beyond beyond;
+        kept = kept_then (length lists) p₀.base_used p.base_used p'.base_used found.branch here.branch next.branch found.base here.base next.base a.kept kept;
         plan = plan ∙ a.plan;
-        same = same_then found.regions here.regions next.regions a.same same;
+        room = long ∙ a.room;
       }
 
 -- Where each group keeps one channel, the lowest of each is that channel.
@@ -191,17 +189,17 @@ single lists masks x alive narrow fits is g l =
 module _ {O P H Q : Type 0} (om : OrderMeaning H) (law : LawfulMeaning om) (pm : PolicyMeaning Q) (plaw : LawfulPolicy pm) (oh : O → H) (ph : P → Q) (book : Meaning) (blaw : Lawful book)
     (s : OpenSearch) (lists : List ℕ) (allowance : ℕ) (found : Lent O P) (accepted : sitting_refusal (request s lists book allowance found) ≡ None) where
   pub comes : (left : ℕ) (last : Option Move) (p p' : Progress) (here next : Lent O P) (v : Verdict) (a : Along om pm oh ph book lists allowance s.at found left last p here)
-      → state_of p' next.regions.branch.now next.regions.base.now ≡ state_of p here.regions.branch.now here.regions.base.now → oh next.order ≡ oh here.order → ph next.policy ≡ ph here.policy
-      → Sits lists book (behaviour om (oh found.order)) (cutoffs pm (ph found.policy)) (length found.regions.base.now) left
-      (at (state_of p here.regions.branch.now here.regions.base.now) a.events a.restarts) v (at (state_of p here.regions.branch.now here.regions.base.now) a.events a.restarts)
-      → Leaves lists book (state_of p here.regions.branch.now here.regions.base.now) (take (length lists) next.regions.domains.now)
-      ⊎ ((ms : List ℕ) × Leaves lists book (state_of p here.regions.branch.now here.regions.base.now) ms × Dead lists (family ms))
-      → Fit lists p' next.regions.branch.now next.regions.base.now
-      → Beyond (length lists) book.count (bench here.regions) (bench next.regions)
-      → KeptWords (length lists) p.base_used p'.base_used here.regions.branch.now next.regions.branch.now here.regions.base.now next.regions.base.now
+      → state_of p' next.branch next.base ≡ state_of p here.branch here.base → oh next.order ≡ oh here.order → ph next.policy ≡ ph here.policy
+      → Sits lists book (behaviour om (oh found.order)) (cutoffs pm (ph found.policy)) (length found.base) left
+      (at (state_of p here.branch here.base) a.events a.restarts) v (at (state_of p here.branch here.base) a.events a.restarts)
+      → Leaves lists book (state_of p here.branch here.base) (take (length lists) next.domains)
+      ⊎ ((ms : List ℕ) × Leaves lists book (state_of p here.branch here.base) ms × Dead lists (family ms))
+      → Fit lists p' next.branch next.base
+      → Beyond (length lists) book.count here.domains next.domains here.marks next.marks here.ends next.ends here.settled next.settled
+      → KeptWords (length lists) p.base_used p'.base_used here.branch next.branch here.base next.base
       → ComesTo om pm oh ph book s lists allowance found next v p'
   comes left last p p' here next v a same so sp sits remain fit beyond kept =
-      let end = at (state_of p here.regions.branch.now here.regions.base.now) a.events a.restarts in
+      let end = at (state_of p here.branch here.base) a.events a.restarts in
       let all = a.onward v end sits in
       record {
         accepted = accepted;
@@ -212,10 +210,10 @@ module _ {O P H Q : Type 0} (om : OrderMeaning H) (law : LawfulMeaning om) (pm :
         order = so ∙ a.order;
         policy = sp ∙ a.policy;
         remain = remain;
-        beyond = beyond_then (length lists) book.count (bench found.regions) (bench here.regions) (bench next.regions) a.beyond beyond;
-        kept = kept_then (length lists) s.at.base_used p.base_used p'.base_used found.regions.branch.now here.regions.branch.now next.regions.branch.now found.regions.base.now here.regions.base.now next.regions.base.now a.kept kept;
+        beyond = beyond_then a.beyond beyond;
+        kept = kept_then (length lists) s.at.base_used p.base_used p'.base_used found.branch here.branch next.branch found.base here.base next.base a.kept kept;
         continues = sitting_continues lists book blaw (behaviour om (oh found.order)) (behaves om law (oh found.order)) (cutoffs pm (ph found.policy)) (cuts_off pm plaw (ph found.policy))
-            (state_of s.at found.regions.branch.now found.regions.base.now) (request s lists book allowance found) (sitting_stands (request s lists book allowance found) s.at.counts.closings s.at.counts.restarts accepted)
+            (state_of s.at found.branch found.base) (request s lists book allowance found) (sitting_stands (request s lists book allowance found) s.at.counts.closings s.at.counts.restarts accepted)
             (record { groups = refl; rules = refl }) accepted v end all;
       }
 

@@ -11,10 +11,8 @@ use Rattle.laws.specs.Requests.{in_range, book_agrees, search_agrees, base_fits,
 use Rattle.laws.proofs.Refusals.{unless_none, all_none}
 use Rattle.laws.proofs.Words.{is_branch, is_base}
 use Rattle.search.specs.declared.held.OpenSearch.{OpenSearch}
-use Rattle.propagation.specs.Benches.{Roomy}
 use Rattle.search.specs.Counts.{Counted}
-use Rattle.search.specs.Regions.{bench}
-use Rattle.search.specs.Turns.{Fit}
+use Rattle.search.specs.Turns.{Fit, Roomy}
 use Rattle.search.specs.Sittings.{Lent, request}
 use Rattle.search.specs.Restarts.{recall}
 
@@ -22,10 +20,10 @@ pub record Ready {O P : Type 0} (book : Meaning) (s : OpenSearch) (lists : List 
   pub groups : book.groups ≡ length lists
   pub rules : book.count ≤ 4096
   pub searched : s.groups ≡ length lists
-  pub fit : Fit lists s.at r.regions.branch.now r.regions.base.now
+  pub fit : Fit lists s.at r.branch r.base
   pub counted : Counted allowance s.at
-  pub roomy : Roomy (length lists) book.count (bench r.regions)
-  pub plan : length lists ≤ length r.regions.plan.now
+  pub roomy : Roomy (length lists) book.count (length r.domains) (length r.marks) (length r.ends) (length r.settled)
+  pub plan : length lists ≤ length r.plan
 
 -- The used words of a base that passes its test.
 base_words_lem : (lists ws : List ℕ) → base? lists ws ≡ true → AllByRecursion (Nogood lists) (base_of ws) × (ws ≡ recorded (base_of ws))
@@ -43,20 +41,20 @@ ready book s lists allowance r e =
     let agree = and_parts (book_agrees q) (search_agrees q) c9.1 in
     let books = and_parts (eqb book.groups (length lists)) (leb book.count 4096) agree.0 in
     let c10 = and_parts (base_fits q) (branch_fits q && work_fits q) (unless_none (base_fits q && (branch_fits q && work_fits q)) 10 n.1.1.0) in
-    let base = and_parts (leb s.at.base_used (length r.regions.base.now)) (leb (length r.regions.base.now) 65536) c10.0 in
+    let base = and_parts (leb s.at.base_used (length r.base)) (leb (length r.base) 65536) c10.0 in
     let rest = and_parts (branch_fits q) (work_fits q) c10.1 in
-    let work = and_parts (leb s.groups (length r.regions.domains.now) && leb 256 (length r.regions.marks.now)) ((leb (2 * book.count) (length r.regions.ends.now) && leb s.groups (length r.regions.settled.now)) && leb s.groups (length r.regions.plan.now)) rest.1 in
-    let front = and_parts (leb s.groups (length r.regions.domains.now)) (leb 256 (length r.regions.marks.now)) work.0 in
-    let back = and_parts (leb (2 * book.count) (length r.regions.ends.now) && leb s.groups (length r.regions.settled.now)) (leb s.groups (length r.regions.plan.now)) work.1 in
-    let places = and_parts (leb (2 * book.count) (length r.regions.ends.now)) (leb s.groups (length r.regions.settled.now)) back.0 in
+    let work = and_parts (leb s.groups (length r.domains) && leb 256 (length r.marks)) ((leb (2 * book.count) (length r.ends) && leb s.groups (length r.settled)) && leb s.groups (length r.plan)) rest.1 in
+    let front = and_parts (leb s.groups (length r.domains)) (leb 256 (length r.marks)) work.0 in
+    let back = and_parts (leb (2 * book.count) (length r.ends) && leb s.groups (length r.settled)) (leb s.groups (length r.plan)) work.1 in
+    let places = and_parts (leb (2 * book.count) (length r.ends)) (leb s.groups (length r.settled)) back.0 in
     let same : s.groups ≡ length lists = eqb-true s.groups (length lists) agree.1 in
     let moves = leb-true (s.at.counts.moves + allowance) 100000000 (unless_none (leb (s.at.counts.moves + allowance) 100000000) 12 n.1.1.1.1.0) in
-    let words = base_words_lem lists (take s.at.base_used r.regions.base.now) (unless_none (is_base_sound q) 16 n.1.1.1.1.1.1.0) in
+    let words = base_words_lem lists (take s.at.base_used r.base) (unless_none (is_base_sound q) 16 n.1.1.1.1.1.1.0) in
     let within = s.within in
-    let g1 = leb-true s.groups (length r.regions.domains.now) front.0 in
-    let g2 = leb-true s.groups (length r.regions.settled.now) places.1 in
-    let g3 = leb-true s.groups (length r.regions.plan.now) back.1 in
-    let g4 = leb-true (64 * s.groups) (length r.regions.branch.now) rest.0 in
+    let g1 = leb-true s.groups (length r.domains) front.0 in
+    let g2 = leb-true s.groups (length r.settled) places.1 in
+    let g3 = leb-true s.groups (length r.plan) back.1 in
+    let g4 = leb-true (64 * s.groups) (length r.branch) rest.0 in
     record {
       groups = eqb-true book.groups (length lists) books.0;
       rules = leb-true book.count 4096 books.1;
@@ -66,14 +64,14 @@ ready book s lists allowance r e =
         few = leb-true (length lists) 200 range.1;
         branch_in = omega arith;
         branch_room = omega arith;
-        base_in = leb-true s.at.base_used (length r.regions.base.now) base.0;
-        base_room = leb-true (length r.regions.base.now) 65536 base.1;
-        sound = is_branch lists (branch_of r.regions.branch.now s.at.branch_len) (unless_none (is_branch_sound q) 13 n.1.1.1.1.1.0);
+        base_in = leb-true s.at.base_used (length r.base) base.0;
+        base_room = leb-true (length r.base) 65536 base.1;
+        sound = is_branch lists (branch_of r.branch s.at.branch_len) (unless_none (is_branch_sound q) 13 n.1.1.1.1.1.0);
         nogoods = words.0;
         words = words.1;
       };
       counted = record { moves = moves; closings = s.counted.closings; restarts = s.counted.restarts; since = s.counted.since };
-      roomy = record { domains = omega arith; marks = leb-true 256 (length r.regions.marks.now) front.1; ends = leb-true (2 * book.count) (length r.regions.ends.now) places.0; settled = omega arith };
+      roomy = record { domains = omega arith; marks = leb-true 256 (length r.marks) front.1; ends = leb-true (2 * book.count) (length r.ends) places.0; settled = omega arith };
       plan = omega arith;
     }
 

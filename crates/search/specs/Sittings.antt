@@ -8,7 +8,8 @@ use Rattle.branching.specs.Policy.{PolicyMeaning}
 use Rattle.model.specs.Words.{recorded}
 use Rattle.model.specs.Remains.{family, Dead}
 use Rattle.model.specs.Moves.{State, start}
-use Rattle.propagation.specs.Benches.{Beyond}
+use Rattle.propagation.specs.declared.records.RuleEnd.{RuleEnd}
+use Rattle.propagation.specs.declared.records.Assignment.{Assignment}
 use Rattle.laws.specs.Orders.{held_after, behaviour, moved_on, cutoffs}
 use Rattle.laws.specs.Sittings.{Search, begun, Verdict, none, plan, unsettled, Leaves, Sits}
 use Rattle.laws.specs.Requests.{Request, open_refusal, sitting_refusal}
@@ -21,22 +22,34 @@ use Rattle.search.specs.declared.held.SettledSearch.{SettledSearch}
 use Rattle.search.specs.declared.held.Sat.{Sat}
 use Rattle.search.specs.declared.held.Sat.TheVariants.{Plan as SatPlan, None as SatNone, Open as SatOpen}
 use Rattle.search.specs.declared.regions.Regions.{Regions}
-use Rattle.search.specs.Regions.{bench, sizes}
-use Rattle.search.specs.Turns.{state_of, KeptWords}
+use Rattle.search.specs.Turns.{state_of, Beyond, KeptWords}
 use Rattle.search.specs.Calls.{asking, opening}
 
 -- What a sitting is lent, or leaves: the regions, the order and the policy.
 pub record Lent (O P : Type 0) : Type 0 where
-  pub regions : Regions
+  pub domains : List ℕ
+  pub branch : List ℕ
+  pub marks : List ℕ
+  pub ends : List RuleEnd
+  pub settled : List Assignment
+  pub plan : List ℕ
+  pub base : List ℕ
   pub order : O
   pub policy : P
 
-abbrev pub lent : {O P : Type 0} → Regions → O → P → Lent O P
-lent r o p = record { regions = r; order = o; policy = p }
+abbrev pub lent : {O P : Type 0} → List ℕ → List ℕ → List ℕ → List RuleEnd → List Assignment → List ℕ → List ℕ → O → P → Lent O P
+lent ds ws ms es ss xs bs o p = record { domains = ds; branch = ws; marks = ms; ends = es; settled = ss; plan = xs; base = bs; order = o; policy = p }
+
+-- What the regions hold, with the order and the policy.
+abbrev pub lent_in : {O P : Type 0} → Regions → O → P → Lent O P
+lent_in r o p = lent r.domains.now r.branch.now r.marks.now r.ends.now r.settled.now r.plan.now r.base.now o p
 
 -- The call as it is checked.
 abbrev pub request : {O P : Type 0} → OpenSearch → List ℕ → Meaning → ℕ → Lent O P → Request
-request s lists book allowance r = asking s.groups s.at lists book.groups book.count allowance (sizes r.regions) r.regions.branch.now r.regions.base.now
+request s lists book allowance r =
+    asking s.groups s.at lists book.groups book.count allowance
+    (record { domains = length r.domains; marks = length r.marks; ends = length r.ends; settled = length r.settled; plan = length r.plan })
+    r.branch r.base
 
 -- The counts are those of the state.
 pub record Tells (c : Counts) (s : State) : Type 0 where
@@ -50,20 +63,20 @@ module _ {O P H Q : Type 0} (om : OrderMeaning H) (pm : PolicyMeaning Q) (order_
     pub accepted : sitting_refusal (request s lists book allowance found) ≡ None
     -- the moves, from the state that was passed to the one that is left
     pub end : Search
-    pub sits : Sits lists book (behaviour om (order_holds found.order)) (cutoffs pm (policy_holds found.policy)) (length found.regions.base.now) allowance
-        (begun (state_of s.at found.regions.branch.now found.regions.base.now)) v end
-    pub state : state_of p left.regions.branch.now left.regions.base.now ≡ end.state
-    pub words : take p.base_used left.regions.base.now ≡ recorded end.state.base
+    pub sits : Sits lists book (behaviour om (order_holds found.order)) (cutoffs pm (policy_holds found.policy)) (length found.base) allowance
+        (begun (state_of s.at found.branch found.base)) v end
+    pub state : state_of p left.branch left.base ≡ end.state
+    pub words : take p.base_used left.base ≡ recorded end.state.base
     -- the order and the policy hold what the moves made of their holdings
     pub order : order_holds left.order ≡ held_after om (order_holds found.order) end.events
     pub policy : policy_holds left.policy ≡ moved_on pm (policy_holds found.policy) end.restarts
     -- the domains are what remains, unless the state is dead
-    pub remain : Leaves lists book end.state (take (length lists) left.regions.domains.now) ⊎ ((ms : List ℕ) × Leaves lists book end.state ms × Dead lists (family ms))
+    pub remain : Leaves lists book end.state (take (length lists) left.domains) ⊎ ((ms : List ℕ) × Leaves lists book end.state ms × Dead lists (family ms))
     -- what is untouched
-    pub beyond : Beyond (length lists) book.count (bench found.regions) (bench left.regions)
-    pub kept : KeptWords (length lists) s.at.base_used p.base_used found.regions.branch.now left.regions.branch.now found.regions.base.now left.regions.base.now
+    pub beyond : Beyond (length lists) book.count found.domains left.domains found.marks left.marks found.ends left.ends found.settled left.settled
+    pub kept : KeptWords (length lists) s.at.base_used p.base_used found.branch left.branch found.base left.base
     -- every run that came to what was passed goes on to what is left, and the law of runs holds of it
-    pub continues : Continues lists book (state_of s.at found.regions.branch.now found.regions.base.now) v end.state
+    pub continues : Continues lists book (state_of s.at found.branch found.base) v end.state
 
   -- A settled search tells the counts.
   abbrev pub Settles : Verdict → SettledSearch → Type 0
@@ -71,7 +84,7 @@ module _ {O P H Q : Type 0} (om : OrderMeaning H) (pm : PolicyMeaning Q) (order_
 
   -- The plan stands in the first bytes of its region.
   abbrev pub Planned : SettledSearch → Type 0
-  Planned d = Settles (plan (take (length lists) left.regions.plan.now)) d × (drop (length lists) left.regions.plan.now ≡ drop (length lists) found.regions.plan.now)
+  Planned d = Settles (plan (take (length lists) left.plan)) d × (drop (length lists) left.plan ≡ drop (length lists) found.plan)
 
   -- An open search is handed back, as the next call finds it.
   pub record Stays (t : OpenSearch) : Type 0 where
@@ -79,7 +92,7 @@ module _ {O P H Q : Type 0} (om : OrderMeaning H) (pm : PolicyMeaning Q) (order_
     pub groups : t.groups ≡ s.groups
     pub tells : (t.at.counts.closings ≡ comes.end.state.closings) × (t.at.counts.restarts ≡ comes.end.state.restarts)
     pub next : Found lists (request t lists book allowance left) comes.end.state
-    pub plan : left.regions.plan.now ≡ found.regions.plan.now
+    pub plan : left.plan ≡ found.plan
 
   -- The sitting is refused: the first number of its checks with its place, the search handed back, and all as found. A run on any lists and book goes on with the search it had.
   pub record Refused (e : Refusal × OpenSearch) : Type 0 where
@@ -90,7 +103,7 @@ module _ {O P H Q : Type 0} (om : OrderMeaning H) (pm : PolicyMeaning Q) (order_
 
   abbrev pub Answers : Result Sat (Refusal × OpenSearch) → Type 0
   Answers (Ok (SatPlan d)) = Planned d
-  Answers (Ok (SatNone d)) = Settles none d × (left.regions.plan.now ≡ found.regions.plan.now)
+  Answers (Ok (SatNone d)) = Settles none d × (left.plan ≡ found.plan)
   Answers (Ok (SatOpen t)) = Stays t
   Answers (Err e) = Refused e
 

@@ -2,7 +2,7 @@
 ghost use Rattle.std.specs.Prelude.{◌≡◌, ℕ, ◌^◌, ◌<◌, ◌≤◌, length, drop, MatchResult, slice_index, slice_index_or};
 ghost use Rattle.std.specs.Int.Count.{count_trailing_zeros};
 ghost use Rattle.search.specs.Regions.{SameRegions};
-ghost use Rattle.search.specs.Sittings.{lent, Opened, Unopened, Answers};
+ghost use Rattle.search.specs.Sittings.{lent_in, Opened, Unopened, Answers};
 ghost use Rattle.search.specs.Restarts.{RestartAnswers};
 
 use crate::held::{OpenSearch, Progress, Sat, SettledSearch};
@@ -48,7 +48,7 @@ pub fn sitting<B: RuleBook, O: Order, P: RestartPolicy>(
     allowance: u32,
     regions: &mut Regions<'_>,
 ) -> Result<Sat, (Refusal, OpenSearch)>
-    ensures answers { Answers O.Order.meaning P.RestartPolicy.meaning O.Order.held P.RestartPolicy.held (B.RuleBook.meaning book.now) «search» lists.now allowance (lent regions.old order.old policy.old) (lent regions.new order.new policy.new) result }
+    ensures answers { Answers O.Order.meaning P.RestartPolicy.meaning O.Order.held P.RestartPolicy.held (B.RuleBook.meaning book.now) «search» lists.now allowance (lent_in regions.old order.old policy.old) (lent_in regions.new order.new policy.new) result }
     ensures same { SameRegions regions.old regions.new }
 {
     if let Err(refusal) = vet_sitting(&search, lists, book, allowance, regions) {

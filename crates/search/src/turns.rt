@@ -2,11 +2,10 @@
 ghost use Rattle.std.specs.Prelude.{◌≡◌, ℕ, ◌+◌, ◌*◌, ◌<◌, ◌≤◌, true, false, List, length, take, drop, Some, OnOk, OnErr};
 ghost use Rattle.branching.specs.Channels.{Open};
 ghost use Rattle.model.specs.Words.{branch_of, base_of, recorded};
-ghost use Rattle.propagation.specs.Benches.{Roomy, Beyond};
 ghost use Rattle.propagation.specs.Filtered.{Lives, Dies};
 ghost use Rattle.search.specs.Counts.{Counted};
-ghost use Rattle.search.specs.Regions.{bench, SameRegions};
-ghost use Rattle.search.specs.Turns.{state_of, Fit, DueAt, DeadTurn, AliveTurn, KeptWords, Fresh, Turned};
+ghost use Rattle.search.specs.Regions.{SameRegions};
+ghost use Rattle.search.specs.Turns.{state_of, Fit, DueAt, DeadTurn, AliveTurn, Beyond, KeptWords, Roomy, Fresh, Turned};
 
 use crate::held::Progress;
 use crate::moves::{close, decide, restart, some_wide};
@@ -131,11 +130,11 @@ fn refresh<B: RuleBook>(
     requires fit { Fit lists.now at.now branch.now base.now }
     requires groups { (B.meaning book.now).groups ≡ length lists.now }
     requires rules { (B.meaning book.now).count ≤ 4096 }
-    requires roomy { (length lists.now ≤ length domains.old) × (256 ≤ length marks.old) × (2 * (B.meaning book.now).count ≤ length ends.old) × (length lists.now ≤ length settled.old) }
+    requires roomy { Roomy (length lists.now) (B.meaning book.now).count (length domains.old) (length marks.old) (length ends.old) (length settled.old) }
     requires fresh { last ≡ Some Move.Decide → Fresh lists.now (B.meaning book.now) at.now branch.now base.now domains.old }
     ensures dead { OnErr result (Dies lists.now (B.meaning book.now) (base_of (take at.now.base_used base.now)) (branch_of branch.now at.now.branch_len)) }
     ensures lives { OnOk result (Lives lists.now (B.meaning book.now) (base_of (take at.now.base_used base.now)) (branch_of branch.now at.now.branch_len) (take (length lists.now) domains.new)) }
-    ensures beyond { (drop (length lists.now) domains.new ≡ drop (length lists.now) domains.old) × (drop 256 marks.new ≡ drop 256 marks.old) × (drop (2 * (B.meaning book.now).count) ends.new ≡ drop (2 * (B.meaning book.now).count) ends.old) × (drop (length lists.now) settled.new ≡ drop (length lists.now) settled.old) }
+    ensures beyond { Beyond (length lists.now) (B.meaning book.now).count domains.old domains.new marks.old marks.new ends.old ends.new settled.old settled.new }
 {
     let branch = &branch[..at.branch_len as usize];
     let base = &base[..at.base_used as usize];
@@ -166,13 +165,13 @@ pub(crate) fn turn<B: RuleBook, O: Order, P: RestartPolicy>(
     requires counted { Counted left at.old }
     requires groups { (B.RuleBook.meaning book.now).groups ≡ length lists.now }
     requires rules { (B.RuleBook.meaning book.now).count ≤ 4096 }
-    requires roomy { Roomy (length lists.now) (B.RuleBook.meaning book.now).count (bench regions.old) }
+    requires roomy { Roomy (length lists.now) (B.RuleBook.meaning book.now).count (length regions.old.domains.now) (length regions.old.marks.now) (length regions.old.ends.now) (length regions.old.settled.now) }
     requires fresh { last ≡ Some Move.Decide → Fresh lists.now (B.RuleBook.meaning book.now) at.old regions.old.branch.now regions.old.base.now regions.old.domains.now }
     ensures same { SameRegions regions.old regions.new }
     ensures turned { Turned lists.now (B.RuleBook.meaning book.now) O.Order.meaning P.RestartPolicy.meaning (length regions.old.base.now) left (take (length lists.now) regions.new.domains.now) (O.Order.held order.old) (O.Order.held order.new) (P.RestartPolicy.held policy.old) (P.RestartPolicy.held policy.new) (state_of at.old regions.old.branch.now regions.old.base.now) (state_of at.new regions.new.branch.now regions.new.base.now) result }
     ensures fit { Fit lists.now at.new regions.new.branch.now regions.new.base.now }
     ensures fresh { result ≡ Step.Made Move.Decide → Fresh lists.now (B.RuleBook.meaning book.now) at.new regions.new.branch.now regions.new.base.now regions.new.domains.now }
-    ensures beyond { Beyond (length lists.now) (B.RuleBook.meaning book.now).count (bench regions.old) (bench regions.new) }
+    ensures beyond { Beyond (length lists.now) (B.RuleBook.meaning book.now).count regions.old.domains.now regions.new.domains.now regions.old.marks.now regions.new.marks.now regions.old.ends.now regions.new.ends.now regions.old.settled.now regions.new.settled.now }
     ensures kept { KeptWords (length lists.now) at.old.base_used at.new.base_used regions.old.branch.now regions.new.branch.now regions.old.base.now regions.new.base.now }
     ensures plan { regions.new.plan.now ≡ regions.old.plan.now }
 {

@@ -7,37 +7,39 @@ use Rattle.laws.specs.Orders.{behaviour, cutoffs}
 use Rattle.search.specs.Turns.{state_of}
 use Rattle.rules.specs.Refusals.{told}
 use Rattle.laws.proofs.Runs.{refused_continues}
-use Rattle.search.specs.Sittings.{lent, request}
+use Rattle.search.specs.Sittings.{lent_in, request}
 use Rattle.search.specs.Regions.{sizes}
 use Rattle.search.proofs.Ready.{ready}
-use Rattle.search.proofs.Along.{at, along_more, comes, settles, found_open, held_bounds, single}
+use Rattle.search.proofs.Along.{at, along_more, comes, settles, found_open, held_bounds, same_then, single}
 use Rattle.search.proofs.calls.sitting.Goals as goal
 
 pub moves-init : goal.moves-init
 moves-init g c =
-    let found = lent c.args.regions.now c.args.order.now c.args.policy.now in
-    let r = ready (g.B.RuleBook.meaning c.args.book.now) c.args.search c.args.lists.now c.args.allowance found c.in_default.ensures in
-    record {
-      events = [];
-      restarts = 0;
-      order = refl;
-      policy = refl;
-      onward = λ v u sits. sits;
-      counted = r.counted;
-      fit = r.fit;
-      fresh = λ e. search rules;
-      beyond = record { domains = refl; marks = refl; ends = refl; settled = refl };
-      kept = record { branch = refl; grown = omega arith; base = refl };
-      plan = refl;
-      same = search rules;
-    }
+    let found = lent_in c.args.regions.now c.args.order.now c.args.policy.now in
+    let r = ready (g.B.RuleBook.meaning c.args.book.now) c.args.search c.args.lists.now c.args.allowance found c.in_default.ensures in (
+      record {
+        events = [];
+        restarts = 0;
+        order = refl;
+        policy = refl;
+        onward = λ v u sits. sits;
+        counted = r.counted;
+        fit = r.fit;
+        fresh = λ e. search rules;
+        beyond = record { domains = refl; marks = refl; ends = refl; settled = refl };
+        kept = record { branch = refl; grown = omega arith; base = refl };
+        room = refl;
+        plan = refl;
+      },
+      search rules,
+    )
 
 pub turn-requires : goal.turn-requires
 turn-requires g c =
-    let found = lent c.args.regions.now c.args.order.now c.args.policy.now in
+    let found = lent_in c.args.regions.now c.args.order.now c.args.policy.now in
     let r = ready (g.B.RuleBook.meaning c.args.book.now) c.args.search c.args.lists.now c.args.allowance found c.in_default.ensures in
-    let i = c.moves.invariant in
-    let k = i.same.bench in
+    let i = c.moves.invariant.0 in
+    let k = c.moves.invariant.1 in
     record {
       fit = i.fit;
       counted = i.counted;
@@ -56,22 +58,24 @@ pub moves-preserved : goal.moves-preserved
 moves-preserved g c =
     let lists = c.args.lists.now in
     let e = c.in-Made.ensures in
-    let found = lent c.args.regions.now c.args.order.now c.args.policy.now in
-    let here = lent c.moves.regions c.moves.order c.moves.policy in
-    let next = lent c.turn.new.regions c.turn.new.order c.turn.new.policy in
-    along_more g.O.Order.meaning g.P.RestartPolicy.meaning g.O.Order.held g.P.RestartPolicy.held (g.B.RuleBook.meaning c.args.book.now) lists c.args.allowance c.args.search.at found
-    c.moves.left c.moves.last (Some c.in-Made.made) c.moves.at c.turn.new.at here next (take (length lists) c.turn.new.regions.domains.now) c.moves.invariant
-    e.turned e.fit (λ q. e.fresh (search rules)) e.beyond e.kept e.plan e.same
+    let found = lent_in c.args.regions.now c.args.order.now c.args.policy.now in
+    let here = lent_in c.moves.regions c.moves.order c.moves.policy in
+    let next = lent_in c.turn.new.regions c.turn.new.order c.turn.new.policy in (
+      along_more g.O.Order.meaning g.P.RestartPolicy.meaning g.O.Order.held g.P.RestartPolicy.held (g.B.RuleBook.meaning c.args.book.now) lists c.args.allowance c.args.search.at found
+          c.moves.left c.moves.last (Some c.in-Made.made) c.moves.at c.turn.new.at here next (take (length lists) c.turn.new.regions.domains.now) c.moves.invariant.0
+          e.turned e.fit (λ q. e.fresh (search rules)) e.beyond e.kept e.plan e.same.base_size,
+      same_then c.args.regions.now c.moves.regions c.turn.new.regions c.moves.invariant.1 e.same,
+    )
 
 pub returns-in-None-clause-answers : goal.returns-in-None-clause-answers
 returns-in-None-clause-answers g c =
     let lists = c.args.lists.now in
     let e = c.in-None.ensures in
     let t = e.turned in
-    let i = c.moves.invariant in
-    let found = lent c.args.regions.now c.args.order.now c.args.policy.now in
-    let here = lent c.moves.regions c.moves.order c.moves.policy in
-    let next = lent c.turn.new.regions c.turn.new.order c.turn.new.policy in (
+    let i = c.moves.invariant.0 in
+    let found = lent_in c.args.regions.now c.args.order.now c.args.policy.now in
+    let here = lent_in c.moves.regions c.moves.order c.moves.policy in
+    let next = lent_in c.turn.new.regions c.turn.new.order c.turn.new.policy in (
       settles g.O.Order.meaning g.P.RestartPolicy.meaning g.O.Order.held g.P.RestartPolicy.held (g.B.RuleBook.meaning c.args.book.now) c.args.search lists c.args.allowance found next none _ c.turn.new.at refl
           (comes g.O.Order.meaning g.met.O.Order.lawful g.P.RestartPolicy.meaning g.met.P.RestartPolicy.lawful g.O.Order.held g.P.RestartPolicy.held (g.B.RuleBook.meaning c.args.book.now) (g.B.RuleBook.lawful c.args.book.now)
           c.args.search lists c.args.allowance found c.in_default.ensures c.moves.left c.moves.last c.moves.at c.turn.new.at here next none i
@@ -82,9 +86,9 @@ returns-in-None-clause-answers g c =
 pub invariant_of-result : goal.invariant_of-result
 invariant_of-result g c =
     let e = c.in-Spent.ensures in
-    let found = lent c.args.regions.now c.args.order.now c.args.policy.now in
+    let found = lent_in c.args.regions.now c.args.order.now c.args.policy.now in
     let y = ready (g.B.RuleBook.meaning c.args.book.now) c.args.search c.args.lists.now c.args.allowance found c.in_default.ensures in
-    let b = held_bounds c.args.search.groups c.moves.left c.args.lists.now c.moves.at c.turn.new.at c.moves.regions.branch.now c.moves.regions.base.now c.turn.new.regions.branch.now c.turn.new.regions.base.now y.searched c.moves.invariant.counted e.fit e.turned.0.state in
+    let b = held_bounds c.args.search.groups c.moves.left c.args.lists.now c.moves.at c.turn.new.at c.moves.regions.branch.now c.moves.regions.base.now c.turn.new.regions.branch.now c.turn.new.regions.base.now y.searched c.moves.invariant.0.counted e.fit e.turned.0.state in
     record { sized = c.args.search.sized; within = b.0; used = b.1; counted = b.2 }
 
 pub returns-in-Spent-clause-answers : goal.returns-in-Spent-clause-answers
@@ -93,10 +97,10 @@ returns-in-Spent-clause-answers g c =
     let book = g.B.RuleBook.meaning c.args.book.now in
     let e = c.in-Spent.ensures in
     let t = e.turned in
-    let i = c.moves.invariant in
-    let found = lent c.args.regions.now c.args.order.now c.args.policy.now in
-    let here = lent c.moves.regions c.moves.order c.moves.policy in
-    let next = lent c.turn.new.regions c.turn.new.order c.turn.new.policy in
+    let i = c.moves.invariant.0 in
+    let found = lent_in c.args.regions.now c.args.order.now c.args.policy.now in
+    let here = lent_in c.moves.regions c.moves.order c.moves.policy in
+    let next = lent_in c.turn.new.regions c.turn.new.order c.turn.new.policy in
     let y = ready (g.B.RuleBook.meaning c.args.book.now) c.args.search c.args.lists.now c.args.allowance found c.in_default.ensures in
     let here-at = at (state_of c.moves.at c.moves.regions.branch.now c.moves.regions.base.now) i.events i.restarts in
     let stops : Sits lists book (behaviour g.O.Order.meaning (g.O.Order.held c.args.order.now)) (cutoffs g.P.RestartPolicy.meaning (g.P.RestartPolicy.held c.args.policy.now)) (length c.args.regions.now.base.now) c.moves.left here-at unsettled here-at =
@@ -115,20 +119,20 @@ returns-in-Spent-clause-answers g c =
 
 pub write_plan-requires : goal.write_plan-requires
 write_plan-requires g c =
-    let found = lent c.args.regions.now c.args.order.now c.args.policy.now in
+    let found = lent_in c.args.regions.now c.args.order.now c.args.policy.now in
     let y = ready (g.B.RuleBook.meaning c.args.book.now) c.args.search c.args.lists.now c.args.allowance found c.in_default.ensures in
-    let i = c.moves.invariant in
+    let i = c.moves.invariant.0 in
     let e = c.in-Plan.ensures in
-    record { sized = omega (arith, y.roomy.domains, e.same.bench.domains_size, i.same.bench.domains_size); room = omega (arith, y.plan, ap length e.plan, ap length i.plan) }
+    record { sized = omega (arith, y.roomy.domains, e.same.domains_size, c.moves.invariant.1.domains_size); room = omega (arith, y.plan, ap length e.plan, ap length i.plan) }
 
 pub returns-in-Plan-clause-answers : goal.returns-in-Plan-clause-answers
 returns-in-Plan-clause-answers g c =
     let lists = c.args.lists.now in
     let e = c.in-Plan.ensures in
     let t = e.turned in
-    let i = c.moves.invariant in
-    let found = lent c.args.regions.now c.args.order.now c.args.policy.now in
-    let here = lent c.moves.regions c.moves.order c.moves.policy in
+    let i = c.moves.invariant.0 in
+    let found = lent_in c.args.regions.now c.args.order.now c.args.policy.now in
+    let here = lent_in c.moves.regions c.moves.order c.moves.policy in
     let y = ready (g.B.RuleBook.meaning c.args.book.now) c.args.search lists c.args.allowance found c.in_default.ensures in
     let ds = c.turn.new.regions.domains.now in
     let xs = c.write_plan.new.plan in
@@ -146,7 +150,7 @@ returns-in-Plan-clause-answers g c =
 
 pub returns-in-Err : goal.returns-in-Err
 returns-in-Err g c =
-    let found = lent c.args.regions.now c.args.order.now c.args.policy.now in
+    let found = lent_in c.args.regions.now c.args.order.now c.args.policy.now in
     let q = request c.args.search c.args.lists.now (g.B.RuleBook.meaning c.args.book.now) c.args.allowance found in
     let e = c.in-Err.ensures in
     record {

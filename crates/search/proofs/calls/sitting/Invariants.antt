@@ -1,11 +1,13 @@
-use Rattle.search.specs.Sittings.{lent}
+use Rattle.search.specs.Regions.{SameRegions}
+use Rattle.search.specs.Sittings.{lent_in}
 use Rattle.search.proofs.Along.{Along}
 use Rattle.search.proofs.calls.sitting.Given as goal
 
 abbrev pub invariant-moves : goal.invariant-moves
 invariant-moves g l =
     Along g.O.Order.meaning g.P.RestartPolicy.meaning g.O.Order.held g.P.RestartPolicy.held (g.B.RuleBook.meaning l.book) l.lists l.allowance l.initial.at
-    (lent l.initial.regions l.initial.order l.initial.policy) l.left l.last l.at (lent l.regions l.order l.policy)
+    (lent_in l.initial.regions l.initial.order l.initial.policy) l.left l.last l.at (lent_in l.regions l.order l.policy)
+    × SameRegions l.initial.regions l.regions
 
 abbrev pub decreases-moves : goal.decreases-moves
 decreases-moves g l = l.left

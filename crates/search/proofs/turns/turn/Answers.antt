@@ -31,7 +31,7 @@ returns-in-Err g c =
     let used = d.used in
     let kept = c.turn_dead.auto.branch in
     record {
-      same = record { bench = record { domains = refl; marks = refl; ends = refl; settled = refl; domains_size = c.refresh-remains.auto.domains; marks_size = c.refresh-remains.auto.marks; ends_size = c.refresh-remains.auto.ends; settled_size = c.refresh-remains.auto.settled }; branch = refl; plan = refl; base = refl; branch_size = kept; plan_size = refl; base_size = refl };
+      same = record { domains = refl; marks = refl; ends = refl; settled = refl; domains_size = c.refresh-remains.auto.domains; marks_size = c.refresh-remains.auto.marks; ends_size = c.refresh-remains.auto.ends; settled_size = c.refresh-remains.auto.settled; branch = refl; plan = refl; base = refl; branch_size = kept; plan_size = refl; base_size = refl };
       plan = refl;
       turned = t;
       fit = record {
@@ -46,7 +46,7 @@ returns-in-Err g c =
         words = ap (λ k. take k bs) used ∙ f.words ∙ ap (λ k. recorded (base_of (take k bs))) (sym used);
       };
       fresh = λ e. absurd (not_decided om pm (length bs) c.args.left h h' q q s s' c.turn_dead.result (d.turn bs) e);
-      beyond = (let b = c.refresh-remains.ensures.beyond in record { domains = b.0; marks = b.1; ends = b.2; settled = b.3 });
+      beyond = c.refresh-remains.ensures.beyond;
       kept = record {
         branch = past_more ws ws' p.branch_len (64 * length lists) f.branch_in d.past;
         grown = omega (arith, used);
@@ -110,7 +110,7 @@ returns g c =
     let t = turned_alive lists m om pm (length bs) c.args.left masks h h' q q' s s' c.turn_alive.result a leaves lives.alive in
     let w = turned_whole lists m om pm (length bs) c.args.left masks h h' q q' s s' g.met.O.Order.lawful g.met.P.RestartPolicy.lawful c.turn_alive.result t (fit_whole lists p ws bs f) in
     record {
-      same = record { bench = record { domains = refl; marks = refl; ends = refl; settled = refl; domains_size = c.refresh-remains.auto.domains; marks_size = c.refresh-remains.auto.marks; ends_size = c.refresh-remains.auto.ends; settled_size = c.refresh-remains.auto.settled }; branch = refl; plan = refl; base = refl; branch_size = c.turn_alive.auto.branch; plan_size = refl; base_size = c.turn_alive.auto.base };
+      same = record { domains = refl; marks = refl; ends = refl; settled = refl; domains_size = c.refresh-remains.auto.domains; marks_size = c.refresh-remains.auto.marks; ends_size = c.refresh-remains.auto.ends; settled_size = c.refresh-remains.auto.settled; branch = refl; plan = refl; base = refl; branch_size = c.turn_alive.auto.branch; plan_size = refl; base_size = c.turn_alive.auto.base };
       plan = refl;
       turned = t;
       fit = record {
@@ -125,7 +125,7 @@ returns g c =
         words = d.words;
       };
       fresh = λ e. let k = decided_state om pm (length bs) c.args.left h h' q q' s s' c.turn_alive.result masks a e in fresh_from lists m p p' ws ws' bs bs' ds k.0 k.1 lives;
-      beyond = (let b = c.refresh-remains.ensures.beyond in record { domains = b.0; marks = b.1; ends = b.2; settled = b.3 });
+      beyond = c.refresh-remains.ensures.beyond;
       kept = record {
         branch = d.kept.branch;
         grown = d.kept.grown;
