@@ -67,10 +67,7 @@ fn is_due<P: RestartPolicy>(policy: &P, at: &Progress, branch: &[u32], base: &[u
     ensures yes { result ≡ true → DueAt P.meaning (P.held policy.now) (length base.now) (state_of at.now branch.now base.now) }
     ensures no { result ≡ false → DueAt P.meaning (P.held policy.now) (length base.now) (state_of at.now branch.now base.now) → ⊥ }
 {
-    if policy.cutoff() > at.since {
-        return false;
-    }
-    has_space(at, branch, base)
+    policy.cutoff() <= at.since && has_space(at, branch, base)
 }
 
 // A turn where every group keeps a channel.

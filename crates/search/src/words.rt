@@ -5,6 +5,7 @@ ghost use Rattle.model.specs.Words.{branch_of, recorded};
 ghost use Rattle.search.specs.Branches.{LastTaken};
 
 use crate::held::Progress;
+use model::decision::Decision;
 
 // The place of the last decision taken.
 pub(crate) fn last_taken(branch: &[u32]) -> Option<usize>
@@ -21,10 +22,9 @@ fn words_needed(branch: &[u32]) -> usize
     let mut taken = 0usize;
     let mut words = 0usize;
     for word in branch {
-        if *word < 65536 {
-            taken += 1;
-        } else {
-            words += taken + 2;
+        match Decision::from(*word) {
+            Decision::Taken(_) => taken += 1,
+            Decision::Refused(_) => words += taken + 2,
         }
     }
     words
