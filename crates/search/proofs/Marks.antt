@@ -1,11 +1,25 @@
 -- How a branch grows by the next of its words.
-use Rattle.std.proofs.Common.{◌≡◌, ℕ, zero, suc, ◌+◌, ◌-◌, ◌<◌, ◌≤◌, List, [], ◌∷◌, ◌++◌, length, get_or, drop, set, sym, refl, ap, ◌∙◌, inl, inr, append_assoc, add-one, arith, length-append}
+use Rattle.std.proofs.Common.{◌≡◌, ℕ, zero, suc, ◌+◌, ◌-◌, ◌<◌, ◌≤◌, List, [], ◌∷◌, ◌++◌, length, get_or, take, drop, set, sym, refl, ap, ◌∙◌, inl, inr, append_assoc, add-one, arith, length-append}
 use Rattle.std.proofs.lemmas.List.{append-nil, set_at, drop_more}
 use Rattle.std.proofs.lemmas.Bool.{cases_lt}
 use Rattle.model.specs.Decisions.{Decision, taken, refused, takens, reduced}
 use Rattle.model.specs.Words.{decision, branch_of, recorded}
 use Rattle.model.proofs.Words.{is_taken, is_refused}
-use Rattle.search.specs.Branches.{nogood_at}
+use Rattle.search.specs.Branches.{nogood_at, nogood_of}
+use Rattle.search.proofs.Fronts.{whole_branch}
+
+-- What a word says tells it.
+pub taken_is : (w x : ℕ) → taken x ≡ decision w → (w < 65536) × (x ≡ w)
+taken_is w x e = elim (cases_lt w 65536) [
+  | inl l ↦ (l, let r : taken x ≡ taken w = e ∙ is_taken w l in cc)
+  | inr l ↦ absurd (let r : taken x ≡ refused (w - 65536) = e ∙ is_refused w l in let z : ◌≡◌ {A = ℕ} 0 1 = cc in omega arith)
+]
+
+pub refused_is : (w x : ℕ) → refused x ≡ decision w → (65536 ≤ w) × (x ≡ w - 65536)
+refused_is w x e = elim (cases_lt w 65536) [
+  | inl l ↦ absurd (let r : refused x ≡ taken w = e ∙ is_taken w l in let z : ◌≡◌ {A = ℕ} 0 1 = cc in omega arith)
+  | inr l ↦ (l, let r : refused x ≡ refused (w - 65536) = e ∙ is_refused w l in cc)
+]
 
 module _ (ws : List ℕ) where
   next : (n : ℕ) → branch_of ws (n + 1) ≡ decision (get_or ws n 0) ∷ branch_of ws n
@@ -109,3 +123,7 @@ count_refused ws i t w h a b =
     let q = words_push (reduced (branch_of ws i)) (nogood_at ws i) in
     let r = length-append (takens (branch_of ws i)) ((get_or ws i 0 - 65536) ∷ []) in
     (a ∙ ap length (sym (takens_refused ws i h)), omega arith)
+
+-- The nogood of a refusal, told by the words before it as a slice.
+pub nogood_front : (ws : List ℕ) (i x : ℕ) → i ≤ length ws → x ≡ get_or ws i 0 - 65536 → nogood_of (take i ws) x ≡ nogood_at ws i
+nogood_front ws i x l e = ap (λ ds. takens ds ++ x ∷ []) (whole_branch ws i l) ∙ ap (λ k. takens (branch_of ws i) ++ k ∷ []) e

@@ -4,11 +4,13 @@ ghost use Rattle.branching.specs.Channels.{Open};
 ghost use Rattle.model.specs.Decisions.{reduced};
 ghost use Rattle.model.specs.Words.{branch_of, recorded};
 ghost use Rattle.search.specs.Branches.{LastTaken};
-ghost use Rattle.search.specs.Turns.{closed_at, restarted_at, decided_at, Counted, Decides};
+ghost use Rattle.search.specs.Counts.{Counted};
+ghost use Rattle.search.specs.Turns.{closed_at, restarted_at, decided_at, Decides};
 
 use crate::held::Progress;
 use crate::recording::record_nogoods;
 use branching::{Order, RestartPolicy, pick};
+use model::decision::{assignment_word, group_of, refusal_word};
 
 // Close: the decisions after the one taken at `last` go, and that one becomes refused. Answers its group.
 pub(crate) fn close(at: &mut Progress, branch: &mut [u32], last: usize) -> u16
@@ -20,12 +22,12 @@ pub(crate) fn close(at: &mut Progress, branch: &mut [u32], last: usize) -> u16
     ensures words { branch.new ≡ slice_set branch.old last (slice_index branch.old last + 65536) }
 {
     let word = branch[last];
-    branch[last] = word + 65536;
+    branch[last] = refusal_word(word);
     at.branch_len = last as u32 + 1;
-    at.moves += 1;
-    at.closings += 1;
+    at.counts.moves += 1;
+    at.counts.closings += 1;
     at.since += 1;
-    (word / 64) as u16
+    group_of(word) as u16
 }
 
 // Restart: the nogoods of the branch go into the base, the branch is emptied, and the policy moves on.
@@ -44,12 +46,13 @@ pub(crate) fn restart<P: RestartPolicy>(
     ensures words { base.new ≡ take at.old.base_used base.old ++ (recorded (reduced (branch_of branch.now at.old.branch_len)) ++ drop at.new.base_used base.old) }
     ensures policy { P.held policy.new ≡ P.meaning.next (P.held policy.old) }
 {
-    let used = record_nogoods(base, at.base_used as usize, branch, at.branch_len as usize);
+    let branch = &branch[..at.branch_len as usize];
+    let used = record_nogoods(base, at.base_used as usize, branch);
     policy.advance();
     at.base_used = used as u32;
     at.branch_len = 0;
-    at.moves += 1;
-    at.restarts += 1;
+    at.counts.moves += 1;
+    at.counts.restarts += 1;
     at.since = 0;
 }
 
@@ -67,11 +70,10 @@ pub(crate) fn decide<O: Order>(
     requires counted { Counted 1 at.old }
     ensures decides { Decides O.meaning (O.held order.old) (O.held order.new) domains.now at.old at.new branch.old branch.new }
 {
-    if let Some((group, channel)) = pick(order, domains) {
-        branch[at.branch_len as usize] = 64 * group as u32 + channel as u32;
-        at.branch_len += 1;
-        at.moves += 1;
-    }
+    let (group, channel) = pick(order, domains).unwrap();
+    branch[at.branch_len as usize] = assignment_word(group, channel);
+    at.branch_len += 1;
+    at.counts.moves += 1;
 }
 
 // Whether some group keeps two or more channels.
@@ -79,10 +81,5 @@ pub(crate) fn some_wide(domains: &[u64]) -> bool
     ensures yes { result ≡ true → (g : ℕ) × Open domains.now g }
     ensures no { result ≡ false → (g : ℕ) → Open domains.now g → ⊥ }
 {
-    for d in domains {
-        if d.count_ones() >= 2 {
-            return true;
-        }
-    }
-    false
+    domains.iter().any(|domain| domain.count_ones() >= 2)
 }
