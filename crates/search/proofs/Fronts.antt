@@ -4,12 +4,10 @@ use Rattle.std.specs.List.{AllByRecursion}
 use Rattle.std.proofs.lemmas.List.{length-take-le, get_or-take}
 use Rattle.std.proofs.ByRecursion.{All-weaker}
 use Rattle.std.proofs.lemmas.Bool.{cases_eq}
-use Rattle.model.specs.Decisions.{Decision, word, Assignment, Branch, Nogood}
+use Rattle.model.specs.Decisions.{word, Assignment, Branch, Nogood}
 use Rattle.model.specs.Words.{decision, branch_of}
-use Rattle.rules.specs.Meanings.{Meaning}
 use Rattle.search.specs.Branches.{LastTaken}
 use Rattle.propagation.specs.Bases.{Grouped}
-use Rattle.propagation.specs.Filtered.{Lives, Dies}
 
 module _ (ws : List ℕ) (n : ℕ) (l : n ≤ length ws) where
   pub front_length : length (take n ws) ≡ n
