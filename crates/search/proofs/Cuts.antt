@@ -46,11 +46,3 @@ record_step start base base' r w used at l e b h =
     h ∙ ap (λ ys. ys ++ (w ++ drop (at + length w) base)) front ∙ ap (λ ys. (take used start ++ r) ++ (w ++ ys)) past
     ∙ append_assoc (take used start) r (w ++ drop (at + length w) start)
     ∙ ap (λ ys. take used start ++ ys) (sym (append_assoc r w (drop (at + length w) start)))
-
-pub put_length : (xs ws : List ℕ) (u : ℕ) → u ≤ length xs → length ws ≡ length (take (length xs - u) (drop u xs)) → length (put_mid u (length xs - u) xs ws) ≡ length xs
-put_length xs ws u l e =
-    let a = length-append (take u xs) ws in
-    let b = length-take-le u xs l in
-    let d = length-drop u xs in
-    let f : length (take (length xs - u) (drop u xs)) ≡ length (drop u xs) = ap length (take_rest xs u) in
-    ap length (rest_put xs ws u) ∙ (omega arith)

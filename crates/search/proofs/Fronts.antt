@@ -4,12 +4,10 @@ use Rattle.std.specs.List.{AllByRecursion}
 use Rattle.std.proofs.lemmas.List.{length-take-le, get_or-take}
 use Rattle.std.proofs.ByRecursion.{All-weaker}
 use Rattle.std.proofs.lemmas.Bool.{cases_eq}
-use Rattle.model.specs.Decisions.{Decision, word, Assignment, Branch, Nogood}
+use Rattle.model.specs.Decisions.{word, Assignment, Branch, Nogood}
 use Rattle.model.specs.Words.{decision, branch_of}
-use Rattle.rules.specs.Meanings.{Meaning}
 use Rattle.search.specs.Branches.{LastTaken}
 use Rattle.propagation.specs.Bases.{Grouped}
-use Rattle.propagation.specs.Filtered.{Lives, Dies}
 
 module _ (ws : List ℕ) (n : ℕ) (l : n ≤ length ws) where
   pub front_length : length (take n ws) ≡ n
@@ -46,10 +44,3 @@ listed_word lists ws (suc n) b i h = elim (cases_eq i n) [ inl e ↦ rw e b.0 | 
 
 pub all_grouped : (lists : List ℕ) (ns : List (List ℕ)) → AllByRecursion (Nogood lists) ns → AllByRecursion (Grouped (length lists)) ns
 all_grouped lists ns h = All-weaker (Nogood lists) (Grouped (length lists)) (λ n k. All-weaker (Assignment lists) (λ v. v / 64 < length lists) (λ v a. a.group) n k.listed) ns h
-
--- What remains depends on the nogoods and the decisions alone.
-pub lives_at : {lists : List ℕ} {book : Meaning} {ns ns' : List (List ℕ)} {ds ds' : List Decision} {ms : List ℕ} → ns ≡ ns' → ds ≡ ds' → Lives lists book ns ds ms → Lives lists book ns' ds' ms
-lives_at {lists} {book} {ns} {ns'} {ds} {ds'} {ms} e f h = subst (λ xs. Lives lists book xs ds' ms) e (subst (λ xs. Lives lists book ns xs ms) f h)
-
-pub dies_at : {lists : List ℕ} {book : Meaning} {ns ns' : List (List ℕ)} {ds ds' : List Decision} → ns ≡ ns' → ds ≡ ds' → Dies lists book ns ds → Dies lists book ns' ds'
-dies_at {lists} {book} {ns} {ns'} {ds} {ds'} e f h = subst (λ xs. Dies lists book xs ds') e (subst (λ xs. Dies lists book ns xs) f h)

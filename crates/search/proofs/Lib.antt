@@ -2,7 +2,6 @@ pub mod Marks
 pub mod Cuts
 pub mod States
 pub mod Fronts
-pub mod Choices
 pub mod Turning
 pub mod Vets
 pub mod Along

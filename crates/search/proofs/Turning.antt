@@ -128,11 +128,8 @@ fresh_from lists book p p' ws ws' bs bs' ds w e l =
       | inr l ↦ absurd (let r : refused (v - 65536) ≡ taken w = sym (is_refused v l) ∙ e in let z : ◌≡◌ {A = ℕ} 0 1 = cc in omega arith)
     ]
 
--- The same turn, told by another name of the masks; and what it is where it came to a decision.
+-- What a turn is where it came to a decision.
 module _ {H Q : Type 0} (om : OrderMeaning H) (pm : PolicyMeaning Q) (room left : ℕ) (h h' : H) (q q' : Q) (s s' : State) (r : Step) where
-  pub alive_at : (ms ms' : List ℕ) → ms ≡ ms' → AliveTurn om pm room left ms h h' q q' s s' r → AliveTurn om pm room left ms' h h' q q' s s' r
-  alive_at ms ms' e t = subst (λ (xs : List ℕ). AliveTurn om pm room left xs h h' q q' s s' r) e t
-
   pub not_decided : DeadTurn om left h h' s s' r → r ≡ Made Decide → ⊥
   not_decided t e = subst (λ (x : Step). DeadTurn om left h h' s s' x) e t
 

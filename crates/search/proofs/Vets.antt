@@ -1,7 +1,7 @@
 -- The tests that a call makes, step by step.
 use Rattle.std.proofs.Common.{◌≡◌, ℕ, zero, suc, ◌+◌, ◌-◌, ◌<◌, ◌≤◌, Bool, true, false, not, ◌&&◌, eqb, ltb, ◌≢◌, List, [], ◌∷◌, ◌++◌, length, get_or, take, drop, set, Some, None, sym, refl, ap, ◌∙◌, subst, inl, inr, add-one, arith, get_or-set_other, get_or-set_same}
 use Rattle.std.proofs.lemmas.List.{take_more, take_all}
-use Rattle.std.proofs.lemmas.Bool.{cases_eq, cases_Bool, ne_eqb, lt-ltb, le-ltb, ltb-true, ltb-false, and_parts, false≢true}
+use Rattle.std.proofs.lemmas.Bool.{cases_eq, cases_Bool, ne_eqb, le-ltb, ltb-true, ltb-false, and_parts, false≢true}
 use Rattle.rules.specs.Channels.{has}
 use Rattle.std.specs.List.{list_all}
 use Rattle.model.specs.Masks.{grp, chan}
@@ -83,15 +83,6 @@ and_three true true c e = absurd (false≢true (sym e))
 and_three true false c e = refl
 and_three false b c e = refl
 
-and_all : (a b c : Bool) → (a && b) ≡ true → c ≡ true → (a && (b && c)) ≡ true
-and_all true true c e f = f
-and_all true false c e f = absurd (false≢true e)
-and_all false b c e f = absurd (false≢true e)
-
-pub branch_more : (lists ws : List ℕ) (i : ℕ) → (listed? lists (word (decision (get_or ws i 0))) && free? (word (decision (get_or ws i 0))) (branch_of ws i)) ≡ true
-    → branch? lists (branch_of ws i) ≡ true → branch? lists (branch_of ws (i + 1)) ≡ true
-branch_more lists ws i e f = branch_next lists ws i ∙ and_all (listed? lists (word (decision (get_or ws i 0)))) (free? (word (decision (get_or ws i 0))) (branch_of ws i)) (branch? lists (branch_of ws i)) e f
-
 false_on : (lists ws : List ℕ) (i k : ℕ) → branch? lists (branch_of ws i) ≡ false → branch? lists (branch_of ws (k + i)) ≡ false
 false_on lists ws i zero e = let z : 0 + i ≡ i = omega arith in rw z e
 false_on lists ws i (suc k) e =
@@ -106,16 +97,6 @@ branch_fails lists ws i n l e =
     let f = branch_next lists ws i ∙ and_three (listed? lists (word (decision (get_or ws i 0)))) (free? (word (decision (get_or ws i 0))) (branch_of ws i)) (branch? lists (branch_of ws i)) e in
     let z : (n - (i + 1)) + (i + 1) ≡ n = omega arith in
     subst (λ (k : ℕ). branch? lists (branch_of ws k) ≡ false) z (false_on lists ws (i + 1) (n - (i + 1)) f)
-
--- At the start every listed channel is free.
-pub listed_free : (lists sets : List ℕ) → ((g : ℕ) → g < length lists → get_or sets g 0 ≡ get_or lists g 0) → FreeFor lists sets []
-listed_free lists sets f w l =
-    let a : has (get_or sets (grp w) 0) (chan w) ≡ has (get_or lists (grp w) 0) (chan w) = ap (λ x. has x (chan w)) (f (grp w) l) in
-    a ∙ sym (and_true (listed? lists w) ∙ ap (λ b. b && has (get_or lists (grp w) 0) (chan w)) (lt-ltb (grp w) (length lists) l))
-  where
-    and_true : (b : Bool) → (b && true) ≡ b
-    and_true true = refl
-    and_true false = refl
 
 -- A nogood is a branch of decisions taken.
 all_append : {X : Type 0} (p : X → Bool) (xs : List X) (x : X) → all p (xs ++ x ∷ []) ≡ (all p xs && p x)

@@ -45,17 +45,15 @@ fn turn_dead<O: Order>(order: &mut O, left: u32, at: &mut Progress, branch: &mut
     ensures shorter { at.new.branch_len ≤ at.old.branch_len }
     ensures past { drop at.old.branch_len branch.new ≡ drop at.old.branch_len branch.old }
 {
-    match last_taken(&branch[..at.branch_len as usize]) {
-        None => Step::None,
-        Some(last) => {
-            if left == 0 {
-                return Step::Spent;
-            }
-            let group = close(at, branch, last);
-            order.told(group);
-            Step::Made(Move::Close)
-        }
+    let Some(last) = last_taken(&branch[..at.branch_len as usize]) else {
+        return Step::None;
+    };
+    if left == 0 {
+        return Step::Spent;
     }
+    let group = close(at, branch, last);
+    order.told(group);
+    Step::Made(Move::Close)
 }
 
 // Whether the cutoff is reached and the base has the space for a restart.

@@ -15,7 +15,7 @@ ghost use Rattle.search.specs.Calls.{asking, opening, Vets, FreeFor};
 
 use crate::held::OpenSearch;
 use crate::regions::Regions;
-use crate::words::has_space;
+use crate::words::{has_space, is_taken};
 use model::decision::{Decision, channel_of, group_of};
 use propagation::bits::{holds, without};
 use rules::book::RuleBook;
@@ -116,7 +116,7 @@ fn branch_sound(lists: &[u64], branch: &[u32]) -> bool
 fn all_taken(words: &[u32]) -> bool
     ensures { result ≡ list_all (λ w. nat_lt w 65536) words.now }
 {
-    words.iter().all(|word| *word < 65536)
+    words.iter().all(|word| is_taken(*word))
 }
 
 // Whether the words are one or more listed assignments, no two of one group.

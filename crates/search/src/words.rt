@@ -1,5 +1,5 @@
 // What the words of a branch say: its last decision taken, and the space that its nogoods want.
-ghost use Rattle.std.specs.Prelude.{◌≡◌, ◌+◌, ◌≤◌, [], length, nat_le, MatchOption};
+ghost use Rattle.std.specs.Prelude.{◌≡◌, ◌+◌, ◌≤◌, [], length, nat_le, nat_lt, MatchOption};
 ghost use Rattle.model.specs.Decisions.{takens, reduced};
 ghost use Rattle.model.specs.Words.{branch_of, recorded};
 ghost use Rattle.search.specs.Branches.{LastTaken};
@@ -7,11 +7,18 @@ ghost use Rattle.search.specs.Branches.{LastTaken};
 use crate::held::Progress;
 use model::decision::Decision;
 
+// Whether the word says that an assignment is taken.
+pub(crate) fn is_taken(word: u32) -> bool
+    ensures { result ≡ nat_lt word 65536 }
+{
+    matches!(Decision::from(word), Decision::Taken(_))
+}
+
 // The place of the last decision taken.
 pub(crate) fn last_taken(branch: &[u32]) -> Option<usize>
     ensures { MatchOption result (takens (branch_of branch.now (length branch.now)) ≡ []) (λ j. LastTaken branch.now (length branch.now) j) }
 {
-    branch.iter().rposition(|word| *word < 65536)
+    branch.iter().rposition(|word| is_taken(*word))
 }
 
 // How many words the reduced nogoods of the branch take in the base.

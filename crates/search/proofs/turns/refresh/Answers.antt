@@ -1,4 +1,4 @@
-use Rattle.std.proofs.Common.{◌≡◌, ◌-◌, ◌<◌, ◌≤◌, length, take, Some, OnOk, OnErr, sym, ap, ◌∙◌, subst, rules, arith}
+use Rattle.std.proofs.Common.{◌≡◌, ◌-◌, ◌<◌, ◌≤◌, length, take, Some, OnErr, sym, ap, ◌∙◌, subst, rules, arith}
 use Rattle.model.specs.Masks.{grp}
 use Rattle.model.specs.Decisions.{word}
 use Rattle.model.specs.Words.{decision, branch_of, base_of}
