@@ -6,3 +6,4 @@ pub mod Choices
 pub mod Remains
 pub mod Moves
 pub mod Statements
+pub mod Said

@@ -1,6 +1,8 @@
 // The theorems on runs of the search. Each function's contract is one theorem of specs/Statements.antt; the functions compute nothing.
 #![tactic(auto)]
 
+pub mod decision;
+
 ghost use Rattle.model.specs.Statements.{Formed, BranchBounded, StaysShut, Sound, NoneSound, PlanSound, ClosingsBounded, MovesBounded, ReducedExample, RemainsOne, RemainsExists, MeetsUnion, BaseRead};
 
 // On every run the branch has listed assignments, none twice and none of a group taken before, and the base has nogoods.

@@ -1,3 +1,4 @@
+pub mod Benches
 pub mod Waiting
 pub mod Waits
 pub mod Supports

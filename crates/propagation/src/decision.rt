@@ -1,5 +1,5 @@
 // What remains after one more decision, worked out from the family in hand.
-ghost use Rattle.std.specs.Prelude.{◌≡◌, ℕ, ◌-◌, ◌*◌, ◌<◌, ◌≤◌, true, false, [], length, take, drop, ◌≢◌, slice_index, slice_set};
+ghost use Rattle.std.specs.Prelude.{◌≡◌, ℕ, ◌-◌, ◌*◌, ◌<◌, ◌≤◌, true, false, [], length, take, OnOk, OnErr, ◌≢◌, slice_index, slice_set};
 ghost use Rattle.std.specs.List.{AllByRecursion};
 ghost use Rattle.rules.specs.Channels.{has};
 ghost use Rattle.propagation.specs.Waiting.{queued, size};
@@ -12,7 +12,9 @@ ghost use Rattle.propagation.specs.Bases.{Grouped};
 ghost use Rattle.propagation.specs.Calms.{Agrees};
 ghost use Rattle.propagation.specs.Filtered.{Lives, Dies};
 ghost use Rattle.propagation.specs.Wires.{Wired};
+ghost use Rattle.propagation.specs.Benches.{SameRegions, Roomy, Beyond};
 
+use super::bench::{Bench, Dead};
 use super::records::{Assignment, RuleEnd};
 use super::ring::Ring;
 use super::shrink::shrink;
@@ -59,7 +61,7 @@ pub fn resume<B: RuleBook>(
     work(book, wires, base, domains, ends, marks, settled)
 }
 
-// One more decision, taken, over regions of the sizes needed. Answers false where some group keeps nothing.
+// One more decision, taken, over regions of the sizes needed.
 pub fn filter_decision<B: RuleBook>(
     lists: &[u64],
     book: &B,
@@ -70,7 +72,7 @@ pub fn filter_decision<B: RuleBook>(
     marks: &mut [u32],
     ends: &mut [RuleEnd],
     settled: &mut [Assignment],
-) -> bool
+) -> Result<(), Dead>
     requires wired { Wired (B.meaning book.now) wires.now }
     requires groups { length lists.now ≡ (B.meaning book.now).groups }
     requires size { length domains.old ≡ length lists.now }
@@ -84,15 +86,15 @@ pub fn filter_decision<B: RuleBook>(
     requires taken { slice_index branch.now (length branch.now - 1) < 65536 }
     requires group { grp (slice_index branch.now (length branch.now - 1)) < length lists.now }
     requires before { Lives lists.now (B.meaning book.now) (base_of base.now) (branch_of branch.now (length branch.now - 1)) domains.old }
-    ensures dead { result ≡ false → Dies lists.now (B.meaning book.now) (base_of base.now) (branch_of branch.now (length branch.now)) }
-    ensures lives { result ≡ true → Lives lists.now (B.meaning book.now) (base_of base.now) (branch_of branch.now (length branch.now)) domains.new }
+    ensures dead { OnErr result (Dies lists.now (B.meaning book.now) (base_of base.now) (branch_of branch.now (length branch.now))) }
+    ensures lives { OnOk result (Lives lists.now (B.meaning book.now) (base_of base.now) (branch_of branch.now (length branch.now)) domains.new) }
 {
     let word = branch[branch.len() - 1];
     let g = (word / 64) as u16;
     let keeps = alone(domains[g as usize], (word % 64) as u8);
     let mut waiting = Ring::over(ends);
     let mut singles = Ring::over(settled);
-    resume(
+    let alive = resume(
         book,
         wires,
         base,
@@ -102,7 +104,8 @@ pub fn filter_decision<B: RuleBook>(
         &mut waiting,
         marks,
         &mut singles,
-    )
+    );
+    if alive { Ok(()) } else { Err(Dead) }
 }
 
 // What remains once the newest decision of the branch is taken, where the region has what remained before it.
@@ -112,29 +115,21 @@ pub fn propagate_decision<B: RuleBook>(
     book: &B,
     branch: &[u32],
     base: &[u32],
-    domains: &mut [u64],
-    marks: &mut [u32],
-    ends: &mut [RuleEnd],
-    settled: &mut [Assignment],
-) -> bool
+    bench: &mut Bench<'_>,
+) -> Result<(), Dead>
     requires groups { length lists.now ≡ (B.meaning book.now).groups }
-    requires size { length lists.now ≤ length domains.old }
     requires narrow { length lists.now ≤ 200 }
     requires rules { (B.meaning book.now).count ≤ 4096 }
-    requires places { 2 * (B.meaning book.now).count ≤ length ends.old }
-    requires slots { length lists.now ≤ length settled.old }
-    requires words { 256 ≤ length marks.old }
+    requires roomy { Roomy (length lists.now) (B.meaning book.now).count bench.old }
     requires grouped { AllByRecursion (Grouped (length lists.now)) (base_of base.now) }
     requires some { 0 < length branch.now }
     requires taken { slice_index branch.now (length branch.now - 1) < 65536 }
     requires group { grp (slice_index branch.now (length branch.now - 1)) < length lists.now }
-    requires before { Lives lists.now (B.meaning book.now) (base_of base.now) (branch_of branch.now (length branch.now - 1)) (take (length lists.now) domains.old) }
-    ensures dead { result ≡ false → Dies lists.now (B.meaning book.now) (base_of base.now) (branch_of branch.now (length branch.now)) }
-    ensures lives { result ≡ true → Lives lists.now (B.meaning book.now) (base_of base.now) (branch_of branch.now (length branch.now)) (take (length lists.now) domains.new) }
-    ensures beyond { drop (length lists.now) domains.new ≡ drop (length lists.now) domains.old }
-    ensures unmarked { drop 256 marks.new ≡ drop 256 marks.old }
-    ensures unqueued { drop (2 * (B.meaning book.now).count) ends.new ≡ drop (2 * (B.meaning book.now).count) ends.old }
-    ensures unsettled { drop (length lists.now) settled.new ≡ drop (length lists.now) settled.old }
+    requires before { Lives lists.now (B.meaning book.now) (base_of base.now) (branch_of branch.now (length branch.now - 1)) (take (length lists.now) bench.old.domains.now) }
+    ensures same { SameRegions bench.old bench.new }
+    ensures dead { OnErr result (Dies lists.now (B.meaning book.now) (base_of base.now) (branch_of branch.now (length branch.now))) }
+    ensures lives { OnOk result (Lives lists.now (B.meaning book.now) (base_of base.now) (branch_of branch.now (length branch.now)) (take (length lists.now) bench.new.domains.now)) }
+    ensures beyond { Beyond (length lists.now) (B.meaning book.now).count bench.old bench.new }
 {
     let n = lists.len();
     let places = 2 * book.count() as usize;
@@ -146,9 +141,9 @@ pub fn propagate_decision<B: RuleBook>(
         &wires,
         branch,
         base,
-        &mut domains[0..n],
-        &mut marks[0..256],
-        &mut ends[0..places],
-        &mut settled[0..n],
+        &mut bench.domains[0..n],
+        &mut bench.marks[0..256],
+        &mut bench.ends[0..places],
+        &mut bench.settled[0..n],
     )
 }

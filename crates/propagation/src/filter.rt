@@ -1,5 +1,5 @@
 // What remains of the lists, exactly.
-ghost use Rattle.std.specs.Prelude.{◌≡◌, ℕ, ◌*◌, ◌<◌, ◌≤◌, true, false, [], length, take, drop, ◌≢◌, slice_index};
+ghost use Rattle.std.specs.Prelude.{◌≡◌, ℕ, ◌*◌, ◌<◌, ◌≤◌, true, false, [], length, take, OnOk, OnErr, ◌≢◌, slice_index};
 ghost use Rattle.std.specs.List.{AllByRecursion};
 ghost use Rattle.propagation.specs.Waiting.{queued, size};
 ghost use Rattle.model.specs.Masks.{grp};
@@ -13,7 +13,9 @@ ghost use Rattle.propagation.specs.Bases.{Grouped};
 ghost use Rattle.propagation.specs.Calms.{Agrees};
 ghost use Rattle.propagation.specs.Filtered.{Lives, Dies};
 ghost use Rattle.propagation.specs.Wires.{Wired};
+ghost use Rattle.propagation.specs.Benches.{SameRegions, Roomy, Beyond};
 
+use super::bench::{Bench, Dead};
 use super::records::{Assignment, RuleEnd};
 use super::ring::Ring;
 use super::start::{add_all, clear, decide_all, some_empty};
@@ -71,7 +73,7 @@ pub fn run<B: RuleBook>(
     work(book, wires, base, domains, ends, marks, settled)
 }
 
-// The filter over regions of the sizes it needs. Answers false where some group keeps nothing.
+// The filter over regions of the sizes it needs.
 pub fn filter<B: RuleBook>(
     lists: &[u64],
     book: &B,
@@ -82,7 +84,7 @@ pub fn filter<B: RuleBook>(
     marks: &mut [u32],
     ends: &mut [RuleEnd],
     settled: &mut [Assignment],
-) -> bool
+) -> Result<(), Dead>
     requires wired { Wired (B.meaning book.now) wires.now }
     requires groups { length lists.now ≡ (B.meaning book.now).groups }
     requires size { length domains.old ≡ length lists.now }
@@ -93,15 +95,15 @@ pub fn filter<B: RuleBook>(
     requires words { length marks.old ≡ 256 }
     requires decided { (i : ℕ) → i < length branch.now → grp (assigned (decision (slice_index branch.now i))) < length lists.now }
     requires grouped { AllByRecursion (Grouped (length lists.now)) (base_of base.now) }
-    ensures dead { result ≡ false → Dies lists.now (B.meaning book.now) (base_of base.now) (branch_of branch.now (length branch.now)) }
-    ensures lives { result ≡ true → Lives lists.now (B.meaning book.now) (base_of base.now) (branch_of branch.now (length branch.now)) domains.new }
+    ensures dead { OnErr result (Dies lists.now (B.meaning book.now) (base_of base.now) (branch_of branch.now (length branch.now))) }
+    ensures lives { OnOk result (Lives lists.now (B.meaning book.now) (base_of base.now) (branch_of branch.now (length branch.now)) domains.new) }
 {
     if !prepare(lists, branch, domains) {
-        return false;
+        return Err(Dead);
     }
     let mut waiting = Ring::over(ends);
     let mut singles = Ring::over(settled);
-    run(
+    let alive = run(
         book,
         wires,
         base,
@@ -109,36 +111,29 @@ pub fn filter<B: RuleBook>(
         &mut waiting,
         marks,
         &mut singles,
-    )
+    );
+    if alive { Ok(()) } else { Err(Dead) }
 }
 
 // What remains of the lists, over the regions of a sitting, which may be longer: words beyond the sizes needed are untouched.
-// Answers false where some group keeps nothing. An inner call: the search validates what is required here.
+// An inner call: the search validates what is required here.
 pub fn propagate<B: RuleBook>(
     lists: &[u64],
     book: &B,
     branch: &[u32],
     base: &[u32],
-    domains: &mut [u64],
-    marks: &mut [u32],
-    ends: &mut [RuleEnd],
-    settled: &mut [Assignment],
-) -> bool
+    bench: &mut Bench<'_>,
+) -> Result<(), Dead>
     requires groups { length lists.now ≡ (B.meaning book.now).groups }
-    requires size { length lists.now ≤ length domains.old }
     requires narrow { length lists.now ≤ 200 }
     requires rules { (B.meaning book.now).count ≤ 4096 }
-    requires places { 2 * (B.meaning book.now).count ≤ length ends.old }
-    requires slots { length lists.now ≤ length settled.old }
-    requires words { 256 ≤ length marks.old }
+    requires roomy { Roomy (length lists.now) (B.meaning book.now).count bench.old }
     requires decided { (i : ℕ) → i < length branch.now → grp (assigned (decision (slice_index branch.now i))) < length lists.now }
     requires grouped { AllByRecursion (Grouped (length lists.now)) (base_of base.now) }
-    ensures dead { result ≡ false → Dies lists.now (B.meaning book.now) (base_of base.now) (branch_of branch.now (length branch.now)) }
-    ensures lives { result ≡ true → Lives lists.now (B.meaning book.now) (base_of base.now) (branch_of branch.now (length branch.now)) (take (length lists.now) domains.new) }
-    ensures beyond { drop (length lists.now) domains.new ≡ drop (length lists.now) domains.old }
-    ensures unmarked { drop 256 marks.new ≡ drop 256 marks.old }
-    ensures unqueued { drop (2 * (B.meaning book.now).count) ends.new ≡ drop (2 * (B.meaning book.now).count) ends.old }
-    ensures unsettled { drop (length lists.now) settled.new ≡ drop (length lists.now) settled.old }
+    ensures same { SameRegions bench.old bench.new }
+    ensures dead { OnErr result (Dies lists.now (B.meaning book.now) (base_of base.now) (branch_of branch.now (length branch.now))) }
+    ensures lives { OnOk result (Lives lists.now (B.meaning book.now) (base_of base.now) (branch_of branch.now (length branch.now)) (take (length lists.now) bench.new.domains.now)) }
+    ensures beyond { Beyond (length lists.now) (B.meaning book.now).count bench.old bench.new }
 {
     let n = lists.len();
     let places = 2 * book.count() as usize;
@@ -150,9 +145,9 @@ pub fn propagate<B: RuleBook>(
         &wires,
         branch,
         base,
-        &mut domains[0..n],
-        &mut marks[0..256],
-        &mut ends[0..places],
-        &mut settled[0..n],
+        &mut bench.domains[0..n],
+        &mut bench.marks[0..256],
+        &mut bench.ends[0..places],
+        &mut bench.settled[0..n],
     )
 }

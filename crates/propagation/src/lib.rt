@@ -2,6 +2,7 @@
 #![tactic(auto)]
 
 pub mod across;
+pub mod bench;
 pub mod bits;
 pub mod decision;
 pub mod filter;

@@ -1,5 +1,5 @@
 -- How a sitting stands after some of its moves, and how it ends.
-use Rattle.std.proofs.Common.{◌≡◌, ℕ, zero, suc, ◌+◌, ◌-◌, ◌*◌, ◌^◌, ◌<◌, ◌≤◌, Bool, true, ◌⊎◌, List, [], ◌∷◌, ◌++◌, length, get_or, take, drop, None, sym, refl, ap, ◌∙◌, subst, inl, inr, one-add, arith}
+use Rattle.std.proofs.Common.{◌≡◌, ℕ, zero, suc, ◌+◌, ◌-◌, ◌*◌, ◌^◌, ◌<◌, ◌≤◌, ◌⊎◌, List, [], ◌∷◌, ◌++◌, length, get_or, take, drop, Some, None, Option, sym, refl, ap, ◌∙◌, subst, inl, inr, one-add, arith}
 use lib.Count.{ones, count_trailing_zeros}
 use Rattle.std.proofs.lemmas.List.{drop-drop, length-take-le}
 use Rattle.rules.specs.Channels.{Has}
@@ -24,12 +24,18 @@ use Rattle.laws.proofs.Refusals.{sitting_stands}
 use Rattle.laws.proofs.Runs.{sitting_continues}
 use Rattle.laws.proofs.Sittings.{Onward, onward_more}
 use Rattle.search.specs.declared.held.Progress.{Progress}
+use Rattle.search.specs.declared.held.Counts.{Counts}
 use Rattle.search.specs.declared.held.OpenSearch.{OpenSearch}
+use Rattle.search.specs.declared.held.SettledSearch.{SettledSearch}
 use Rattle.search.proofs.Turning.{length_branch_of}
-use Rattle.search.specs.Sittings.{Lent, request, ComesTo}
+use Rattle.search.specs.Sittings.{Lent, request, ComesTo, Settles}
 use Rattle.search.specs.Calls.{asking}
-use Rattle.search.specs.declared.vetting.Sizes.{Sizes}
-use Rattle.search.specs.Turns.{state_of, Counted, Fit, Fresh, Beyond, KeptWords, Moved}
+use Rattle.search.specs.declared.regions.Regions.{Regions}
+use Rattle.search.specs.declared.turns.Move.{Move}
+use Rattle.search.specs.declared.turns.Move.TheVariants.{Decide}
+use Rattle.search.specs.Counts.{Counted}
+use Rattle.search.specs.Regions.{SameRegions, Sizes}
+use Rattle.search.specs.Turns.{state_of, Fit, Fresh, Beyond, KeptWords, Moved}
 
 -- The search at a state, with the events and restarts of the call so far.
 abbrev pub at : State → List Event → ℕ → Search
@@ -75,6 +81,24 @@ room_turn lists book order policy room left s t l (decide masks v a w nd g c eg 
 pub beyond_then : {n r : ℕ} {a b c d e f : List ℕ} {g h i : List RuleEnd} {j k l : List Assignment} → Beyond n r a b d e g h j k → Beyond n r b c e f h i k l → Beyond n r a c d f g i j l
 beyond_then x y = record { domains = y.domains ∙ x.domains; marks = y.marks ∙ x.marks; ends = y.ends ∙ x.ends; settled = y.settled ∙ x.settled }
 
+pub same_then : (a b c : Regions) → SameRegions a b → SameRegions b c → SameRegions a c
+same_then a b c x y = record {
+  domains = y.domains ∙ x.domains;
+  marks = y.marks ∙ x.marks;
+  ends = y.ends ∙ x.ends;
+  settled = y.settled ∙ x.settled;
+  branch = y.branch ∙ x.branch;
+  plan = y.plan ∙ x.plan;
+  base = y.base ∙ x.base;
+  domains_size = y.domains_size ∙ x.domains_size;
+  marks_size = y.marks_size ∙ x.marks_size;
+  ends_size = y.ends_size ∙ x.ends_size;
+  settled_size = y.settled_size ∙ x.settled_size;
+  branch_size = y.branch_size ∙ x.branch_size;
+  plan_size = y.plan_size ∙ x.plan_size;
+  base_size = y.base_size ∙ x.base_size;
+}
+
 pub kept_then : (n u v w : ℕ) (a b c d e f : List ℕ) → KeptWords n u v a b d e → KeptWords n v w b c e f → KeptWords n u w a c d f
 kept_then n u v w a b c d e f x y =
     let up = x.grown in
@@ -88,7 +112,7 @@ module _ {O P H Q : Type 0} (om : OrderMeaning H) (pm : PolicyMeaning Q) (oh : O
   FromStart left t = Onward lists book (behaviour om (oh found.order)) (cutoffs pm (ph found.policy)) (length found.base) allowance (begun (state_of p₀ found.branch found.base)) left t
 
   -- After some moves, with so many left.
-  pub record Along (left : ℕ) (decided : Bool) (p : Progress) (here : Lent O P) : Type 0 where
+  pub record Along (left : ℕ) (last : Option Move) (p : Progress) (here : Lent O P) : Type 0 where
     pub events : List Event
     pub restarts : ℕ
     pub order : oh here.order ≡ held_after om (oh found.order) events
@@ -96,20 +120,20 @@ module _ {O P H Q : Type 0} (om : OrderMeaning H) (pm : PolicyMeaning Q) (oh : O
     pub onward : FromStart left (at (state_of p here.branch here.base) events restarts)
     pub counted : Counted left p
     pub fit : Fit lists p here.branch here.base
-    pub fresh : decided ≡ true → Fresh lists book p here.branch here.base here.domains
+    pub fresh : last ≡ Some Decide → Fresh lists book p here.branch here.base here.domains
     pub beyond : Beyond (length lists) book.count found.domains here.domains found.marks here.marks found.ends here.ends found.settled here.settled
     pub kept : KeptWords (length lists) p₀.base_used p.base_used found.branch here.branch found.base here.base
-    pub room : length here.base ≡ length found.base
     pub plan : here.plan ≡ found.plan
+    pub room : length here.base ≡ length found.base
 
   -- One move more.
-  pub along_more : (left : ℕ) (decided decided' : Bool) (p p' : Progress) (here next : Lent O P) (masks : List ℕ) → Along left decided p here
+  pub along_more : (left : ℕ) (last last' : Option Move) (p p' : Progress) (here next : Lent O P) (masks : List ℕ) → Along left last p here
       → Moved lists book om pm (length here.base) left masks (oh here.order) (oh next.order) (ph here.policy) (ph next.policy) (state_of p here.branch here.base) (state_of p' next.branch next.base)
-      → Fit lists p' next.branch next.base → (decided' ≡ true → Fresh lists book p' next.branch next.base next.domains)
+      → Fit lists p' next.branch next.base → (last' ≡ Some Decide → Fresh lists book p' next.branch next.base next.domains)
       → Beyond (length lists) book.count here.domains next.domains here.marks next.marks here.ends next.ends here.settled next.settled
       → KeptWords (length lists) p.base_used p'.base_used here.branch next.branch here.base next.base
-      → length next.base ≡ length here.base → next.plan ≡ here.plan → Along (left - 1) decided' p' next
-  along_more left decided decided' p p' here next masks a m fit fresh beyond kept long same =
+      → next.plan ≡ here.plan → length next.base ≡ length here.base → Along (left - 1) last' p' next
+  along_more left last last' p p' here next masks a m fit fresh beyond kept plan long =
       let s = state_of p here.branch here.base in
       let h = oh found.order in
       let q = ph found.policy in
@@ -136,8 +160,8 @@ module _ {O P H Q : Type 0} (om : OrderMeaning H) (pm : PolicyMeaning Q) (oh : O
         fresh = fresh;
         beyond = beyond_then a.beyond beyond;
         kept = kept_then (length lists) p₀.base_used p.base_used p'.base_used found.branch here.branch next.branch found.base here.base next.base a.kept kept;
+        plan = plan ∙ a.plan;
         room = long ∙ a.room;
-        plan = same ∙ a.plan;
       }
 
 -- Where each group keeps one channel, the lowest of each is that channel.
@@ -164,7 +188,7 @@ single lists masks x alive narrow fits is g l =
 -- An accepted sitting that ends here.
 module _ {O P H Q : Type 0} (om : OrderMeaning H) (law : LawfulMeaning om) (pm : PolicyMeaning Q) (plaw : LawfulPolicy pm) (oh : O → H) (ph : P → Q) (book : Meaning) (blaw : Lawful book)
     (s : OpenSearch) (lists : List ℕ) (allowance : ℕ) (found : Lent O P) (accepted : sitting_refusal (request s lists book allowance found) ≡ None) where
-  pub comes : (left : ℕ) (decided : Bool) (p p' : Progress) (here next : Lent O P) (v : Verdict) (a : Along om pm oh ph book lists allowance s.at found left decided p here)
+  pub comes : (left : ℕ) (last : Option Move) (p p' : Progress) (here next : Lent O P) (v : Verdict) (a : Along om pm oh ph book lists allowance s.at found left last p here)
       → state_of p' next.branch next.base ≡ state_of p here.branch here.base → oh next.order ≡ oh here.order → ph next.policy ≡ ph here.policy
       → Sits lists book (behaviour om (oh found.order)) (cutoffs pm (ph found.policy)) (length found.base) left
       (at (state_of p here.branch here.base) a.events a.restarts) v (at (state_of p here.branch here.base) a.events a.restarts)
@@ -174,7 +198,7 @@ module _ {O P H Q : Type 0} (om : OrderMeaning H) (law : LawfulMeaning om) (pm :
       → Beyond (length lists) book.count here.domains next.domains here.marks next.marks here.ends next.ends here.settled next.settled
       → KeptWords (length lists) p.base_used p'.base_used here.branch next.branch here.base next.base
       → ComesTo om pm oh ph book s lists allowance found next v p'
-  comes left decided p p' here next v a same so sp sits remain fit beyond kept =
+  comes left last p p' here next v a same so sp sits remain fit beyond kept =
       let end = at (state_of p here.branch here.base) a.events a.restarts in
       let all = a.onward v end sits in
       record {
@@ -189,9 +213,22 @@ module _ {O P H Q : Type 0} (om : OrderMeaning H) (law : LawfulMeaning om) (pm :
         beyond = beyond_then a.beyond beyond;
         kept = kept_then (length lists) s.at.base_used p.base_used p'.base_used found.branch here.branch next.branch found.base here.base next.base a.kept kept;
         continues = sitting_continues lists book blaw (behaviour om (oh found.order)) (behaves om law (oh found.order)) (cutoffs pm (ph found.policy)) (cuts_off pm plaw (ph found.policy))
-            (state_of s.at found.branch found.base) (request s lists book allowance found) (sitting_stands (request s lists book allowance found) s.at.closings s.at.restarts accepted)
+            (state_of s.at found.branch found.base) (request s lists book allowance found) (sitting_stands (request s lists book allowance found) s.at.counts.closings s.at.counts.restarts accepted)
             (record { groups = refl; rules = refl }) accepted v end all;
       }
+
+-- A search that came to an end tells the counts of its state.
+module _ {O P H Q : Type 0} (om : OrderMeaning H) (pm : PolicyMeaning Q) (oh : O → H) (ph : P → Q) (book : Meaning) (s : OpenSearch) (lists : List ℕ) (allowance : ℕ) (found left : Lent O P) where
+  pub settles : (v : Verdict) (d : SettledSearch) (p : Progress) → d.counts ≡ p.counts → ComesTo om pm oh ph book s lists allowance found left v p → Settles om pm oh ph book s lists allowance found left v d
+  settles v d p e r = (
+    p,
+    r,
+    record {
+      moves = ap (λ (n : Counts). n.moves) e ∙ ap (λ (x : State). x.moves) r.state;
+      closings = ap (λ (n : Counts). n.closings) e ∙ ap (λ (x : State). x.closings) r.state;
+      restarts = ap (λ (n : Counts). n.restarts) e ∙ ap (λ (x : State). x.restarts) r.state;
+    },
+  )
 
 -- The next call finds the open search as it is left.
 pub found_open : (groups : ℕ) (p : Progress) (lists : List ℕ) (book_groups rules allowance : ℕ) (z : Sizes) (branch base : List ℕ) (s : State) → groups ≡ length lists
@@ -212,11 +249,11 @@ found_open groups p lists book_groups rules allowance z branch base s g e w l = 
 -- The numbers of an open search are in bounds.
 pub held_bounds : (groups left : ℕ) (lists : List ℕ) (p p' : Progress) (branch base branch' base' : List ℕ) → groups ≡ length lists → Counted left p → Fit lists p' branch' base'
     → state_of p' branch' base' ≡ state_of p branch base
-    → (p'.branch_len ≤ 64 * groups) × (p'.base_used ≤ 65536) × (p'.moves ≤ 100000000) × (p'.closings ≤ p'.moves) × (p'.restarts ≤ p'.moves) × (p'.since ≤ p'.closings)
+    → (p'.branch_len ≤ 64 * groups) × (p'.base_used ≤ 65536) × Counted 0 p'
 held_bounds groups left lists p p' branch base branch' base' g c f e =
-    let m : p'.moves ≡ p.moves = ap (λ (x : State). x.moves) e in
-    let k : p'.closings ≡ p.closings = ap (λ (x : State). x.closings) e in
-    let r : p'.restarts ≡ p.restarts = ap (λ (x : State). x.restarts) e in
+    let m : p'.counts.moves ≡ p.counts.moves = ap (λ (x : State). x.moves) e in
+    let k : p'.counts.closings ≡ p.counts.closings = ap (λ (x : State). x.closings) e in
+    let r : p'.counts.restarts ≡ p.counts.restarts = ap (λ (x : State). x.restarts) e in
     let s : p'.since ≡ p.since = ap (λ (x : State). x.since) e in
     let a = c.moves in
     let b = c.closings in
@@ -225,4 +262,4 @@ held_bounds groups left lists p p' branch base branch' base' g c f e =
     let u = f.base_in in
     let v = f.base_room in
     let w = f.branch_in in
-    (omega arith, omega arith, omega arith, omega arith, omega arith, omega arith)
+    (omega arith, omega arith, record { moves = omega arith; closings = omega arith; restarts = omega arith; since = omega arith })

@@ -1,5 +1,5 @@
 -- The first words of a branch and of a base, as they are lent on.
-use Rattle.std.proofs.Common.{◌≡◌, ℕ, zero, suc, ◌-◌, ◌/◌, ◌<◌, ◌≤◌, List, length, get_or, take, refl, ap, ◌∙◌, subst, inl, inr, not-suc-le-zero, arith}
+use Rattle.std.proofs.Common.{◌≡◌, ℕ, zero, suc, ◌/◌, ◌<◌, ◌≤◌, List, length, get_or, take, refl, ap, ◌∙◌, subst, inl, inr, not-suc-le-zero, arith}
 use Rattle.std.specs.List.{AllByRecursion}
 use Rattle.std.proofs.lemmas.List.{length-take-le, get_or-take}
 use Rattle.std.proofs.ByRecursion.{All-weaker}
@@ -7,28 +7,37 @@ use Rattle.std.proofs.lemmas.Bool.{cases_eq}
 use Rattle.model.specs.Decisions.{Decision, word, Assignment, Branch, Nogood}
 use Rattle.model.specs.Words.{decision, branch_of}
 use Rattle.rules.specs.Meanings.{Meaning}
+use Rattle.search.specs.Branches.{LastTaken}
 use Rattle.propagation.specs.Bases.{Grouped}
 use Rattle.propagation.specs.Filtered.{Lives, Dies}
 
-pub less_none : (n : ℕ) → n - 0 ≡ n
-less_none n = omega arith
-
 module _ (ws : List ℕ) (n : ℕ) (l : n ≤ length ws) where
-  pub front_length : length (take (n - 0) ws) ≡ n
-  front_length = ap (λ k. length (take k ws)) (less_none n) ∙ length-take-le n ws l
+  pub front_length : length (take n ws) ≡ n
+  front_length = length-take-le n ws l
 
-  pub front_word : (i : ℕ) → i < n → get_or (take (n - 0) ws) i 0 ≡ get_or ws i 0
-  front_word i h = ap (λ k. get_or (take k ws) i 0) (less_none n) ∙ get_or-take n ws i 0 h
+  pub front_word : (i : ℕ) → i < n → get_or (take n ws) i 0 ≡ get_or ws i 0
+  front_word i h = get_or-take n ws i 0 h
 
-  pub front_branch : (k : ℕ) → k ≤ n → branch_of (take (n - 0) ws) k ≡ branch_of ws k
+  pub front_branch : (k : ℕ) → k ≤ n → branch_of (take n ws) k ≡ branch_of ws k
   front_branch zero h = refl
   front_branch (suc k) h =
-      let a : get_or (take (n - 0) ws) k 0 ≡ get_or ws k 0 = front_word k (omega arith) in
-      let b : branch_of (take (n - 0) ws) k ≡ branch_of ws k = front_branch k (omega arith) in
+      let a : get_or (take n ws) k 0 ≡ get_or ws k 0 = front_word k (omega arith) in
+      let b : branch_of (take n ws) k ≡ branch_of ws k = front_branch k (omega arith) in
       cc
 
-  pub whole_branch : branch_of (take (n - 0) ws) (length (take (n - 0) ws)) ≡ branch_of ws n
-  whole_branch = ap (branch_of (take (n - 0) ws)) front_length ∙ front_branch n (omega arith)
+  pub whole_branch : branch_of (take n ws) (length (take n ws)) ≡ branch_of ws n
+  whole_branch = ap (branch_of (take n ws)) front_length ∙ front_branch n (omega arith)
+
+  -- The last decision taken among the first words is the last taken of them.
+  pub front_last : (j : ℕ) → LastTaken (take n ws) (length (take n ws)) j → LastTaken ws n j
+  front_last j t =
+      let long = front_length in
+      let within : j < n = omega (arith, t.within) in
+      record {
+        within = within;
+        taken = subst (λ (k : ℕ). k < 65536) (front_word j within) t.taken;
+        after = λ i p q. subst (λ (k : ℕ). 65536 ≤ k) (front_word i q) (t.after i p (omega arith));
+      }
 
 -- The words of a sound branch are listed assignments.
 pub listed_word : (lists ws : List ℕ) (n : ℕ) → Branch lists (branch_of ws n) → (i : ℕ) → i < n → Assignment lists (word (decision (get_or ws i 0)))

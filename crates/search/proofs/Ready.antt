@@ -11,7 +11,8 @@ use Rattle.laws.specs.Requests.{in_range, book_agrees, search_agrees, base_fits,
 use Rattle.laws.proofs.Refusals.{unless_none, all_none}
 use Rattle.laws.proofs.Words.{is_branch, is_base}
 use Rattle.search.specs.declared.held.OpenSearch.{OpenSearch}
-use Rattle.search.specs.Turns.{Counted, Fit, Roomy}
+use Rattle.search.specs.Counts.{Counted}
+use Rattle.search.specs.Turns.{Fit, Roomy}
 use Rattle.search.specs.Sittings.{Lent, request}
 use Rattle.search.specs.Restarts.{recall}
 
@@ -47,7 +48,7 @@ ready book s lists allowance r e =
     let back = and_parts (leb (2 * book.count) (length r.ends) && leb s.groups (length r.settled)) (leb s.groups (length r.plan)) work.1 in
     let places = and_parts (leb (2 * book.count) (length r.ends)) (leb s.groups (length r.settled)) back.0 in
     let same : s.groups ≡ length lists = eqb-true s.groups (length lists) agree.1 in
-    let moves = leb-true (s.at.moves + allowance) 100000000 (unless_none (leb (s.at.moves + allowance) 100000000) 12 n.1.1.1.1.0) in
+    let moves = leb-true (s.at.counts.moves + allowance) 100000000 (unless_none (leb (s.at.counts.moves + allowance) 100000000) 12 n.1.1.1.1.0) in
     let words = base_words_lem lists (take s.at.base_used r.base) (unless_none (is_base_sound q) 16 n.1.1.1.1.1.1.0) in
     let within = s.within in
     let g1 = leb-true s.groups (length r.domains) front.0 in
@@ -69,7 +70,7 @@ ready book s lists allowance r e =
         nogoods = words.0;
         words = words.1;
       };
-      counted = record { moves = moves; closings = s.closed; restarts = s.restarted; since = s.lately };
+      counted = record { moves = moves; closings = s.counted.closings; restarts = s.counted.restarts; since = s.counted.since };
       roomy = record { domains = omega arith; marks = leb-true 256 (length r.marks) front.1; ends = leb-true (2 * book.count) (length r.ends) places.0; settled = omega arith };
       plan = omega arith;
     }
@@ -90,7 +91,7 @@ ready_restart s lists branch base e =
     let c10 = and_parts (base_fits q) (branch_fits q) (unless_none (base_fits q && branch_fits q) 10 n.1.1.0) in
     let used = and_parts (leb s.at.base_used (length base)) (leb (length base) 65536) c10.0 in
     let same : s.groups ≡ length lists = eqb-true s.groups (length lists) c9.1 in
-    let moves = leb-true (s.at.moves + 1) 100000000 (unless_none (leb (s.at.moves + 1) 100000000) 12 n.1.1.1.0) in
+    let moves = leb-true (s.at.counts.moves + 1) 100000000 (unless_none (leb (s.at.counts.moves + 1) 100000000) 12 n.1.1.1.0) in
     let words = base_words_lem lists (take s.at.base_used base) (unless_none (is_base_sound q) 16 n.1.1.1.1.1.0) in
     let within = s.within in
     let g4 = leb-true (64 * s.groups) (length branch) c10.1 in
@@ -107,6 +108,6 @@ ready_restart s lists branch base e =
         nogoods = words.0;
         words = words.1;
       };
-      counted = record { moves = moves; closings = s.closed; restarts = s.restarted; since = s.lately };
+      counted = record { moves = moves; closings = s.counted.closings; restarts = s.counted.restarts; since = s.counted.since };
       space = leb-true (s.at.base_used + length (recorded (reduced (branch_of branch s.at.branch_len)))) (length base) (unless_none (has_space q) 15 n.1.1.1.1.1.1.1.0);
     }

@@ -6,7 +6,7 @@ use Rattle.std.proofs.lemmas.Bool.{cases_eq}
 use Rattle.model.specs.Masks.{grp}
 use Rattle.model.specs.Decisions.{Decision, takens, reduced}
 use Rattle.model.specs.Words.{decision, branch_of, base_of, recorded}
-use Rattle.model.specs.Moves.{State, nogoods, closing, restarting, deciding}
+use Rattle.model.specs.Moves.{State, start, nogoods, closing, restarting, deciding}
 use Rattle.model.proofs.Words.{is_taken, is_refused, write_taken, write_refused}
 use Rattle.model.proofs.Bases.{base_recorded}
 use Rattle.laws.specs.Sittings.{blamed}
@@ -20,6 +20,10 @@ made b ns m c r s = record { branch = b; base = ns; moves = m; closings = c; res
 
 same_made : (b b' : List Decision) (ns ns' : List (List ℕ)) (m m' c c' r r' s s' : ℕ) → b ≡ b' → ns ≡ ns' → m ≡ m' → c ≡ c' → r ≡ r' → s ≡ s' → made b ns m c r s ≡ made b' ns' m' c' r' s'
 same_made b b' ns ns' m m' c c' r r' s s' p q t u v w = cc
+
+-- With no words and no counts it is the state at the start.
+pub opened_state : (p : Progress) (branch base : List ℕ) → p.branch_len ≡ 0 → p.base_used ≡ 0 → p.counts.moves ≡ 0 → p.counts.closings ≡ 0 → p.counts.restarts ≡ 0 → p.since ≡ 0 → state_of p branch base ≡ start
+opened_state p branch base l u m c r s = same_made _ _ _ _ _ _ _ _ _ _ _ _ (ap (branch_of branch) l) (ap (λ k. base_of (take k base)) u) m c r s
 
 plus_one : (n : ℕ) → n + 1 ≡ suc n
 plus_one n = omega arith
@@ -47,14 +51,14 @@ pub closing_state : (p : Progress) (branch base : List ℕ) (last : ℕ) → Las
 closing_state p branch base last l n =
     same_made _ _ _ _ _ _ _ _ _ _ _ _
     (ap (branch_of (set branch last (get_or branch last 0 + 65536))) (plus_one last) ∙ sym (write_refused branch last p.branch_len l.within n l.taken l.after))
-    refl (plus_one p.moves) (plus_one p.closings) refl (plus_one p.since)
+    refl (plus_one p.counts.moves) (plus_one p.counts.closings) refl (plus_one p.since)
 
 pub deciding_state : (p : Progress) (branch base : List ℕ) (w : ℕ) → p.branch_len < length branch → w < 65536
     → state_of (decided_at p) (set branch p.branch_len w) base ≡ deciding w (state_of p branch base)
 deciding_state p branch base w l s =
     same_made _ _ _ _ _ _ _ _ _ _ _ _
     (ap (branch_of (set branch p.branch_len w)) (plus_one p.branch_len) ∙ write_taken branch p.branch_len w l s)
-    refl (plus_one p.moves) refl refl refl
+    refl (plus_one p.counts.moves) refl refl refl
 
 pub recorded_join : (ns ms : List (List ℕ)) → recorded (ns ++ ms) ≡ recorded ns ++ recorded ms
 recorded_join [] ms = refl
@@ -88,7 +92,7 @@ module _ (p : Progress) (branch base base' : List ℕ) (l : p.base_used ≤ leng
   pub restarting_state : state_of (restarted_at branch p) branch base' ≡ restarting (state_of p branch base)
   restarting_state =
       same_made _ _ _ _ _ _ _ _ _ _ _ _
-      refl (ap base_of used_words_lem ∙ base_recorded (nogoods (state_of p branch base))) (plus_one p.moves) refl (plus_one p.restarts) refl
+      refl (ap base_of used_words_lem ∙ base_recorded (nogoods (state_of p branch base))) (plus_one p.counts.moves) refl (plus_one p.counts.restarts) refl
 
   pub restarted_words : take (p.base_used + length (recorded (reduced (branch_of branch p.branch_len)))) base'
       ≡ recorded (base_of (take (p.base_used + length (recorded (reduced (branch_of branch p.branch_len)))) base'))

@@ -25,7 +25,8 @@ use Rattle.laws.proofs.Total.{two_wide}
 use Rattle.laws.proofs.Sittings.{turn_move}
 use Rattle.search.specs.declared.held.Progress.{Progress}
 use Rattle.search.specs.declared.turns.Step.{Step}
-use Rattle.search.specs.declared.turns.Step.TheVariants.{None as EndsNone, Plan, Spent, Moved as Went, Decided}
+use Rattle.search.specs.declared.turns.Step.TheVariants.{None as EndsNone, Plan, Spent, Made}
+use Rattle.search.specs.declared.turns.Move.TheVariants.{Close, Restart, Decide}
 use Rattle.search.specs.Turns.{state_of, Fit, Fresh, DeadTurn, AliveTurn, Moved, Turned}
 
 pub length_branch_of : (ws : List ℕ) (n : ℕ) → length (branch_of ws n) ≡ n
@@ -64,17 +65,19 @@ module _ {H Q : Type 0} (lists : List ℕ) (book : Meaning) (om : OrderMeaning H
   turned_dead EndsNone t d e = (record { state = t.1; order = t.2; policy = e }, d, t.0)
   turned_dead Plan t d e = absurd t
   turned_dead Spent t d e = (record { state = t.2; order = t.3; policy = e }, t.0, dead d.0 d.1 d.2 t.1, inr d)
-  turned_dead Went t d e = record { allowed = t.0; next = after_close (begun s); turn = close d.0 d.1 d.2 t.1; state = t.2; order = t.3; policy = e }
-  turned_dead Decided t d e = absurd t
+  turned_dead (Made Close) t d e = record { allowed = t.0; next = after_close (begun s); turn = close d.0 d.1 d.2 t.1; state = t.2; order = t.3; policy = e }
+  turned_dead (Made Restart) t d e = absurd t
+  turned_dead (Made Decide) t d e = absurd t
 
   pub turned_alive : (r : Step) → AliveTurn om pm room left masks h h' q q' s s' r → Leaves lists book s masks → Alive lists (family masks) → Turned lists book om pm room left masks h h' q q' s s' r
   turned_alive EndsNone t l a = absurd t
   turned_alive Plan t l a = (record { state = t.1; order = t.2; policy = t.3 }, l, a, t.0)
   turned_alive Spent t l a = (record { state = t.2; order = t.3; policy = t.4 }, t.0, wide masks l a (two_wide lists book s masks l t.1.0 t.1.1), inl l)
-  turned_alive Went t l a =
+  turned_alive (Made Close) t l a = absurd t
+  turned_alive (Made Restart) t l a =
       let r = t.2 in
       record { allowed = t.0; next = after_restart (begun s); turn = restart masks l a (two_wide lists book s masks l t.1.0 t.1.1) r.due; state = r.state; order = r.order; policy = r.policy }
-  turned_alive Decided t l a =
+  turned_alive (Made Decide) t l a =
       let r = t.2 in
       record {
         allowed = t.0;
@@ -95,8 +98,7 @@ module _ {H Q : Type 0} (lists : List ℕ) (book : Meaning) (om : OrderMeaning H
     turned_whole EndsNone t w = subst (Whole lists) (sym t.0.state) w
     turned_whole Plan t w = subst (Whole lists) (sym t.0.state) w
     turned_whole Spent t w = subst (Whole lists) (sym t.0.state) w
-    turned_whole Went t w = moved_whole t w
-    turned_whole Decided t w = moved_whole t w
+    turned_whole (Made _) t w = moved_whole t w
 
 pub fit_whole : (lists : List ℕ) (p : Progress) (branch base : List ℕ) → Fit lists p branch base → Whole lists (state_of p branch base)
 fit_whole lists p branch base f = record { branch = f.sound; base = f.nogoods }
@@ -131,10 +133,10 @@ module _ {H Q : Type 0} (om : OrderMeaning H) (pm : PolicyMeaning Q) (room left 
   pub alive_at : (ms ms' : List ℕ) → ms ≡ ms' → AliveTurn om pm room left ms h h' q q' s s' r → AliveTurn om pm room left ms' h h' q q' s s' r
   alive_at ms ms' e t = subst (λ (xs : List ℕ). AliveTurn om pm room left xs h h' q q' s s' r) e t
 
-  pub not_decided : DeadTurn om left h h' s s' r → r ≡ Decided → ⊥
+  pub not_decided : DeadTurn om left h h' s s' r → r ≡ Made Decide → ⊥
   not_decided t e = subst (λ (x : Step). DeadTurn om left h h' s s' x) e t
 
-  pub decided_state : (ms : List ℕ) → AliveTurn om pm room left ms h h' q q' s s' r → r ≡ Decided → (w : ℕ) × (s' ≡ deciding w s)
+  pub decided_state : (ms : List ℕ) → AliveTurn om pm room left ms h h' q q' s s' r → r ≡ Made Decide → (w : ℕ) × (s' ≡ deciding w s)
   decided_state ms t e =
-      let d : AliveTurn om pm room left ms h h' q q' s s' Decided = subst (λ (x : Step). AliveTurn om pm room left ms h h' q q' s s' x) e t in
+      let d : AliveTurn om pm room left ms h h' q q' s s' (Made Decide) = subst (λ (x : Step). AliveTurn om pm room left ms h h' q q' s s' x) e t in
       (64 * d.2.group + d.2.channel, d.2.state)

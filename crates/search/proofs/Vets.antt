@@ -1,18 +1,18 @@
 -- The tests that a call makes, step by step.
 use Rattle.std.proofs.Common.{◌≡◌, ℕ, zero, suc, ◌+◌, ◌-◌, ◌<◌, ◌≤◌, Bool, true, false, not, ◌&&◌, eqb, ltb, ◌≢◌, List, [], ◌∷◌, ◌++◌, length, get_or, take, drop, set, Some, None, sym, refl, ap, ◌∙◌, subst, inl, inr, add-one, arith, get_or-set_other, get_or-set_same}
-use Rattle.std.proofs.lemmas.List.{at_drop_more, take_more, take_all, length-drop, drop-drop}
-use Rattle.std.proofs.lemmas.Bool.{cases_eq, cases_Bool, eq-eqb, ne_eqb, lt-ltb, le-ltb, ltb-true, ltb-false, and_parts, false≢true}
+use Rattle.std.proofs.lemmas.List.{take_more, take_all}
+use Rattle.std.proofs.lemmas.Bool.{cases_eq, cases_Bool, ne_eqb, lt-ltb, le-ltb, ltb-true, ltb-false, and_parts, false≢true}
 use Rattle.rules.specs.Channels.{has}
+use Rattle.std.specs.List.{list_all}
 use Rattle.model.specs.Masks.{grp, chan}
 use Rattle.model.specs.Lists.{all}
-use Rattle.model.specs.Decisions.{Decision, refused, word}
+use Rattle.model.specs.Decisions.{Decision, taken, refused, word}
 use Rattle.model.specs.Words.{decision, branch_of}
 use Rattle.model.proofs.Words.{is_taken}
 use Rattle.laws.specs.Words.{listed?, free?, branch?, apart?, some?, nogood?, base?}
 use Rattle.laws.proofs.Words.{base_step, base_short}
-use Rattle.laws.specs.Requests.{Refusal, unless, first_of, empty_at, empty_from}
+use Rattle.laws.specs.Requests.{Refusal, empty_at, empty_from}
 use Rattle.search.specs.Calls.{FreeFor}
-use Rattle.search.proofs.Fronts.{less_none, whole_branch}
 
 -- The lowest empty list.
 empty_nothing : (m g : ℕ) (later : Refusal) → m ≡ 0 → empty_at m g later ≡ Some (3, g)
@@ -23,41 +23,54 @@ empty_something : (m g : ℕ) (later : Refusal) → m ≢ 0 → empty_at m g lat
 empty_something zero g later e = absurd (e refl)
 empty_something (suc m) g later e = refl
 
-pub empty_here : (lists : List ℕ) (i : ℕ) → i < length lists → get_or lists i 0 ≡ 0 → empty_from i (drop i lists) ≡ Some (3, i)
-empty_here lists i l e = at_drop_more (empty_from i) lists i 0 l ∙ empty_nothing (get_or lists i 0) i (empty_from (suc i) (drop (i + 1) lists)) e
+-- The first empty list is told with its group, counted from g.
+pub empty_first : (g : ℕ) (lists : List ℕ) (i : ℕ) → i < length lists → get_or lists i 0 ≡ 0 → ((k : ℕ) → k < i → get_or lists k 0 ≢ 0) → empty_from g lists ≡ Some (3, g + i)
+empty_first g [] i l e before = absurd (omega arith)
+empty_first g (m ∷ ms) zero l e before = empty_nothing m g (empty_from (suc g) ms) e ∙ ap (λ k. Some (3, k)) (omega arith)
+empty_first g (m ∷ ms) (suc i) l e before =
+    empty_something m g (empty_from (suc g) ms) (before zero (omega arith)) ∙ empty_first (suc g) ms i (omega arith) e (λ k h. before (suc k) (omega arith)) ∙ ap (λ k. Some (3, k)) (omega arith)
 
-pub empty_later : (lists : List ℕ) (i : ℕ) → i < length lists → get_or lists i 0 ≢ 0 → empty_from i (drop i lists) ≡ empty_from (i + 1) (drop (i + 1) lists)
-empty_later lists i l e = at_drop_more (empty_from i) lists i 0 l ∙ empty_something (get_or lists i 0) i (empty_from (suc i) (drop (i + 1) lists)) e ∙ ap (λ k. empty_from k (drop (i + 1) lists)) (sym (add-one i))
+pub empty_never : (g : ℕ) (lists : List ℕ) → ((k : ℕ) → k < length lists → get_or lists k 0 ≢ 0) → empty_from g lists ≡ None
+empty_never g [] all = refl
+empty_never g (m ∷ ms) all = empty_something m g (empty_from (suc g) ms) (all zero (omega arith)) ∙ empty_never (suc g) ms (λ k h. all (suc k) (omega arith))
 
--- Tests joined in another order.
-pub join_swap : (a b c : Bool) → ((a && b) && c) ≡ (a && (c && b))
-join_swap true true true = refl
-join_swap true true false = refl
-join_swap true false true = refl
-join_swap true false false = refl
-join_swap false b c = refl
+pub and_assoc : (a b c : Bool) → ((a && b) && c) ≡ (a && (b && c))
+and_assoc true b c = refl
+and_assoc false b c = refl
 
 pub and_false : (b : Bool) → (b && false) ≡ false
 and_false true = refl
 and_false false = refl
 
-same_channel : (v w : ℕ) → grp v ≡ grp w → eqb (chan v) (chan w) ≡ eqb w v
-same_channel v w e = elim (cases_eq v w) [
-  | inl q ↦ eq-eqb (chan v) (chan w) (ap chan q) ∙ sym (eq-eqb w v (sym q))
-  | inr ne ↦ ne_eqb (chan v) (chan w) (λ c. ne (omega arith)) ∙ sym (ne_eqb w v (λ q. ne (sym q)))
-]
+-- A decision leaves free what was free and is free beside it, and every assignment of another group.
+free_split : (v : ℕ) (d : Decision) (ds : List Decision) → (free? v ds && free? v (d ∷ [])) ≡ free? v (d ∷ ds)
+free_split v (taken w) ds = turned (free? v ds) (not (eqb (grp w) (grp v)))
+  where
+    turned : (a b : Bool) → (a && (b && true)) ≡ (b && a)
+    turned true true = refl
+    turned true false = refl
+    turned false true = refl
+    turned false false = refl
+free_split v (refused w) ds = turned (free? v ds) (not (eqb w v))
+  where
+    turned : (a b : Bool) → (a && (b && true)) ≡ (b && a)
+    turned true true = refl
+    turned true false = refl
+    turned false true = refl
+    turned false false = refl
 
--- A refused assignment is free no more, and all others are as they were.
-pub refused_free : (lists sets : List ℕ) (ds : List Decision) (w new : ℕ) → grp w < length sets
-    → ((j : ℕ) → has new j ≡ (has (get_or sets (grp w) 0) j && not (eqb j (chan w)))) → FreeFor lists sets ds → FreeFor lists (set sets (grp w) new) (refused w ∷ ds)
-refused_free lists sets ds w new l bits free v h = elim (cases_eq (grp v) (grp w)) [
+free_elsewhere : (v : ℕ) (d : Decision) (ds : List Decision) → grp v ≢ grp (word d) → free? v ds ≡ free? v (d ∷ ds)
+free_elsewhere v (taken w) ds ne = ap (λ b. not b && free? v ds) (sym (ne_eqb (grp w) (grp v) (λ q. ne (sym q))))
+free_elsewhere v (refused w) ds ne = ap (λ b. not b && free? v ds) (sym (ne_eqb w v (λ q. ne (ap grp (sym q)))))
+
+pub admitted : (lists sets : List ℕ) (ds : List Decision) (d : Decision) (g new : ℕ) → g ≡ grp (word d) → g < length sets
+    → ((v : ℕ) → grp v ≡ grp (word d) → has new (chan v) ≡ (has (get_or sets g 0) (chan v) && free? v (d ∷ []))) → FreeFor lists sets ds → FreeFor lists (set sets g new) (d ∷ ds)
+admitted lists sets ds d g new of l stays free v h = elim (cases_eq (grp v) g) [
   | inl e ↦ (
-      let here : has (get_or (set sets (grp w) new) (grp v) 0) (chan v) ≡ has new (chan v) = ap (λ k. has (get_or (set sets (grp w) new) k 0) (chan v)) e ∙ ap (λ x. has x (chan v)) (get_or-set_same sets (grp w) new 0 l) in
-      here ∙ bits (chan v) ∙ ap (λ k. has (get_or sets k 0) (chan v) && not (eqb (chan v) (chan w))) (sym e) ∙ ap (λ b. b && not (eqb (chan v) (chan w))) (free v h)
-      ∙ ap (λ b. (listed? lists v && free? v ds) && not b) (same_channel v w e) ∙ join_swap (listed? lists v) (free? v ds) (not (eqb w v)))
-  | inr ne ↦ (
-      ap (λ x. has x (chan v)) (get_or-set_other sets (grp w) (grp v) new 0 ne) ∙ free v h
-      ∙ ap (λ b. listed? lists v && (not b && free? v ds)) (sym (ne_eqb w v (λ q. ne (ap grp (sym q))))))
+      ap (λ k. has (get_or (set sets g new) k 0) (chan v)) e ∙ ap (λ x. has x (chan v)) (get_or-set_same sets g new 0 l) ∙ stays v (e ∙ of)
+      ∙ ap (λ k. has (get_or sets k 0) (chan v) && free? v (d ∷ [])) (sym e) ∙ ap (λ b. b && free? v (d ∷ [])) (free v h)
+      ∙ and_assoc (listed? lists v) (free? v ds) (free? v (d ∷ [])) ∙ ap (λ b. listed? lists v && b) (free_split v d ds))
+  | inr ne ↦ ap (λ x. has x (chan v)) (get_or-set_other sets g (grp v) new 0 ne) ∙ free v h ∙ ap (λ b. listed? lists v && b) (free_elsewhere v d ds (λ q. ne (q ∙ sym of)))
 ]
 
 -- A branch is tested word by word, the oldest first.
@@ -111,11 +124,7 @@ all_append p [] x = pull (p x)
     pull : (b : Bool) → (b && true) ≡ b
     pull true = refl
     pull false = refl
-all_append p (y ∷ ys) x = ap (λ b. p y && b) (all_append p ys x) ∙ sym (assoc (p y) (all p ys) (p x))
-  where
-    assoc : (a b c : Bool) → ((a && b) && c) ≡ (a && (b && c))
-    assoc true b c = refl
-    assoc false b c = refl
+all_append p (y ∷ ys) x = ap (λ b. p y && b) (all_append p ys x) ∙ sym (and_assoc (p y) (all p ys) (p x))
 
 apart_append : (xs : List ℕ) (w : ℕ) → apart? (xs ++ w ∷ []) ≡ (apart? xs && all (λ v. not (eqb (grp v) (grp w))) xs)
 apart_append [] w = refl
@@ -179,9 +188,14 @@ all_low [] e i h = absurd (omega arith)
 all_low (w ∷ ws) e zero h = ltb-true w 65536 (and_parts (ltb w 65536) (all (λ w. ltb w 65536) ws) e).0
 all_low (w ∷ ws) e (suc i) h = all_low ws (and_parts (ltb w 65536) (all (λ w. ltb w 65536) ws) e).1 i (omega arith)
 
-pub nogood_taken : (lists ws : List ℕ) → 0 < length ws → all (λ w. ltb w 65536) ws ≡ true → branch? lists (branch_of ws (length ws)) ≡ nogood? lists ws
+-- std's word for a test of all, and the model's.
+all_list : {X : Type 0} (p : X → Bool) (xs : List X) → list_all p xs ≡ all p xs
+all_list p [] = refl
+all_list p (x ∷ xs) = ap (λ b. p x && b) (all_list p xs)
+
+pub nogood_taken : (lists ws : List ℕ) → 0 < length ws → list_all (λ w. ltb w 65536) ws ≡ true → branch? lists (branch_of ws (length ws)) ≡ nogood? lists ws
 nogood_taken lists ws l e =
-    branch_taken lists ws (length ws) (omega arith) (all_low ws e) ∙ ap (λ xs. all (listed? lists) xs && apart? xs) (take_all (length ws) ws (omega arith)) ∙ sym (ap (λ b. b && (all (listed? lists) ws && apart? ws)) (some ws l))
+    branch_taken lists ws (length ws) (omega arith) (all_low ws (sym (all_list (λ w. ltb w 65536) ws) ∙ e)) ∙ ap (λ xs. all (listed? lists) xs && apart? xs) (take_all (length ws) ws (omega arith)) ∙ sym (ap (λ b. b && (all (listed? lists) ws && apart? ws)) (some ws l))
   where
     some : (ws : List ℕ) → 0 < length ws → some? ws ≡ true
     some [] l = absurd (omega arith)
@@ -192,8 +206,8 @@ nogood_empty lists [] e = refl
 nogood_empty lists (w ∷ ws) e = absurd (omega arith)
 
 -- A word from 65,536 on is no listed assignment.
-pub nogood_refused : (lists ws : List ℕ) → length lists ≤ 200 → all (λ w. ltb w 65536) ws ≡ false → nogood? lists ws ≡ false
-nogood_refused lists ws few e = ap (λ b. some? ws && (b && apart? ws)) (unlisted ws e) ∙ and_false (some? ws)
+pub nogood_refused : (lists ws : List ℕ) → length lists ≤ 200 → list_all (λ w. ltb w 65536) ws ≡ false → nogood? lists ws ≡ false
+nogood_refused lists ws few e = ap (λ b. some? ws && (b && apart? ws)) (unlisted ws (sym (all_list (λ w. ltb w 65536) ws) ∙ e)) ∙ and_false (some? ws)
   where
     unlisted : (ws : List ℕ) → all (λ w. ltb w 65536) ws ≡ false → all (listed? lists) ws ≡ false
     unlisted [] e = absurd (false≢true (sym e))
@@ -202,46 +216,11 @@ nogood_refused lists ws few e = ap (λ b. some? ws && (b && apart? ws)) (unliste
       | inr f ↦ (let big : 65536 ≤ w = ltb-false w 65536 f in ap (λ b. (b && has (get_or lists (grp w) 0) (chan w)) && all (listed? lists) ws) (le-ltb (grp w) (length lists) (omega arith)))
     ]
 
-pub branch_step : (lists ws sets : List ℕ) (i : ℕ) → FreeFor lists sets (decision (get_or ws i 0) ∷ branch_of ws i) → FreeFor lists sets (branch_of ws (i + 1))
-branch_step lists ws sets i f = subst (λ (k : ℕ). FreeFor lists sets (branch_of ws k)) (sym (add-one i)) f
-
 -- A base is tested nogood by nogood.
-pub base_turn : (lists base : List ℕ) (pos n : ℕ) → pos < length base → n ≡ get_or base pos 0 → n ≤ length base - (pos + 1)
-    → base? lists (drop pos base) ≡ (nogood? lists (take ((pos + 1 + n) - (pos + 1)) (drop (pos + 1) base)) && base? lists (drop (pos + (1 + n)) base))
-base_turn lists base pos n l e h =
-    let rest = drop (pos + 1) base in
-    let long = length-drop (pos + 1) base in
-    let z : n ≡ (pos + 1 + n) - (pos + 1) = omega arith in
-    let y : pos + 1 + n ≡ pos + (1 + n) = omega arith in
-    at_drop_more (base? lists) base pos 0 l ∙ ap (λ k. base? lists (k ∷ rest)) (sym e) ∙ base_step lists n rest (omega arith)
-    ∙ ap (λ k. nogood? lists (take k rest) && base? lists (drop n rest)) z
-    ∙ ap (λ xs. nogood? lists (take ((pos + 1 + n) - (pos + 1)) rest) && base? lists xs) (drop-drop n (pos + 1) base ∙ ap (λ k. drop k base) y)
+pub base_turn : (lists rest words front back : List ℕ) (n : ℕ) (b : Bool) → rest ≡ n ∷ words → n ≤ length words → front ≡ take n words → back ≡ drop n words
+    → b ≡ nogood? lists front → base? lists rest ≡ (b && base? lists back)
+base_turn lists rest words front back n b r l f g h =
+    ap (base? lists) r ∙ base_step lists n words l ∙ ap (λ xs. nogood? lists xs && base? lists (drop n words)) (sym f) ∙ ap (λ c. c && base? lists (drop n words)) (sym h) ∙ ap (λ xs. b && base? lists xs) (sym g)
 
-pub base_stops : (lists base : List ℕ) (pos n : ℕ) → pos < length base → n ≡ get_or base pos 0 → length base - (pos + 1) < n → base? lists (drop pos base) ≡ false
-base_stops lists base pos n l e h =
-    let long = length-drop (pos + 1) base in
-    at_drop_more (base? lists) base pos 0 l ∙ ap (λ k. base? lists (k ∷ drop (pos + 1) base)) (sym e) ∙ base_short lists n (drop (pos + 1) base) (omega arith)
-
--- The first check that fails decides.
-pub pass : (b : Bool) (n : ℕ) (rs : List Refusal) → b ≡ true → first_of (unless b n ∷ rs) ≡ first_of rs
-pass true n rs e = refl
-pass false n rs e = absurd (false≢true e)
-
-pub fail : (b : Bool) (n : ℕ) (rs : List Refusal) → b ≡ false → first_of (unless b n ∷ rs) ≡ Some (n, 0)
-fail true n rs e = absurd (false≢true (sym e))
-fail false n rs e = refl
-
-pub pass_none : (r : Refusal) (rs : List Refusal) → r ≡ None → first_of (r ∷ rs) ≡ first_of rs
-pass_none None rs e = refl
-pass_none (Some x) rs e = absurd (let z : ◌≡◌ {A = ℕ} 0 1 = cc in omega arith)
-
-pub fail_some : (r : Refusal) (x : ℕ × ℕ) (rs : List Refusal) → r ≡ Some x → first_of (r ∷ rs) ≡ Some x
-fail_some None x rs e = absurd (let z : ◌≡◌ {A = ℕ} 0 1 = cc in omega arith)
-fail_some (Some y) x rs e = e
-
--- The tests of the first words, as they were made.
-pub branch_is : (lists ws : List ℕ) (n : ℕ) (b : Bool) → n ≤ length ws → b ≡ branch? lists (branch_of (take (n - 0) ws) (length (take (n - 0) ws))) → branch? lists (branch_of ws n) ≡ b
-branch_is lists ws n b l e = sym (e ∙ ap (branch? lists) (whole_branch ws n l))
-
-pub base_is : (lists ws : List ℕ) (n : ℕ) (b : Bool) → b ≡ base? lists (take (n - 0) ws) → base? lists (take n ws) ≡ b
-base_is lists ws n b e = sym (e ∙ ap (λ k. base? lists (take k ws)) (less_none n))
+pub base_stops : (lists rest words : List ℕ) (n : ℕ) → rest ≡ n ∷ words → length words < n → base? lists rest ≡ false
+base_stops lists rest words n r l = ap (base? lists) r ∙ base_short lists n words l

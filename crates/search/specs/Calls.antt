@@ -1,13 +1,14 @@
 -- What a call on a search is given, and what it answers and leaves.
-use Rattle.std.specs.Prelude.{◌≡◌, ℕ, ◌+◌, ◌*◌, ◌<◌, ◌&&◌, List, [], ◌∷◌, length, take, nat_le, nat_lt, slice_index}
+use Rattle.std.specs.Prelude.{◌≡◌, ℕ, ◌<◌, ◌&&◌, List, [], length, Some, None, Ok, Err, Result, slice_index}
+use Rattle.rules.specs.Refusals.{told}
+use Rattle.rules.specs.declared.refusal.Refusal.{Refusal as Fault}
 use Rattle.rules.specs.Channels.{has}
 use Rattle.model.specs.Masks.{grp, chan}
-use Rattle.model.specs.Decisions.{Decision, reduced}
-use Rattle.model.specs.Words.{branch_of, recorded}
-use Rattle.laws.specs.Words.{listed?, free?, branch?, base?}
-use Rattle.laws.specs.Requests.{Request, Refusal, unless}
+use Rattle.model.specs.Decisions.{Decision}
+use Rattle.laws.specs.Words.{listed?, free?}
+use Rattle.laws.specs.Requests.{Request, Refusal}
 use Rattle.search.specs.declared.held.Progress.{Progress}
-use Rattle.search.specs.declared.vetting.Sizes.{Sizes}
+use Rattle.search.specs.Regions.{Sizes}
 
 -- What a call is given: the search's groups and numbers, the lists, the book's groups and rules, the allowance, the sizes of the regions that are only written, and the words of the branch and the base.
 abbrev pub asking : ℕ → Progress → List ℕ → ℕ → ℕ → ℕ → Sizes → List ℕ → List ℕ → Request
@@ -18,7 +19,7 @@ asking groups p lists book_groups rules allowance z branch base = record {
   groups = groups;
   branch_length = p.branch_len;
   base_used = p.base_used;
-  moves = p.moves;
+  moves = p.counts.moves;
   since = p.since;
   allowance = allowance;
   domains_size = z.domains;
@@ -55,19 +56,7 @@ opening lists book_groups rules = record {
   base = [];
 }
 
--- The checks of the words of a search.
-abbrev pub word_checks : ℕ → Progress → List ℕ → List ℕ → List ℕ → List Refusal
-word_checks groups p lists branch base =
-    unless (branch? lists (branch_of branch p.branch_len)) 13
-    ∷ unless (base? lists (take p.base_used base)) 16
-    ∷ unless (nat_lt p.branch_len (64 * groups)) 20
-    ∷ []
-
--- The checks of the words of a search that is restarted.
-abbrev pub nogood_checks : Progress → List ℕ → List ℕ → List ℕ → List Refusal
-nogood_checks p lists branch base =
-    unless (branch? lists (branch_of branch p.branch_len)) 13
-    ∷ unless (base? lists (take p.base_used base)) 16
-    ∷ unless (nat_le 1 p.since) 14
-    ∷ unless (nat_le (p.base_used + length (recorded (reduced (branch_of branch p.branch_len)))) (length base)) 15
-    ∷ []
+-- A call goes on where no refusal is due, and else is refused for the one that is.
+abbrev pub Vets : Result (Unit {0}) Fault → Refusal → Type 0
+Vets (Ok _) due = due ≡ None
+Vets (Err e) due = due ≡ Some (told e)

@@ -1,4 +1,6 @@
 pub mod Branches
+pub mod Counts
+pub mod Regions
 pub mod Turns
 pub mod Calls
 pub mod Sittings

@@ -21,6 +21,7 @@ use Rattle.search.specs.declared.held.OpenSearch.{OpenSearch}
 use Rattle.search.specs.declared.held.SettledSearch.{SettledSearch}
 use Rattle.search.specs.declared.held.Sat.{Sat}
 use Rattle.search.specs.declared.held.Sat.TheVariants.{Plan as SatPlan, None as SatNone, Open as SatOpen}
+use Rattle.search.specs.declared.regions.Regions.{Regions}
 use Rattle.search.specs.Turns.{state_of, Beyond, KeptWords}
 use Rattle.search.specs.Calls.{asking, opening}
 
@@ -38,6 +39,10 @@ pub record Lent (O P : Type 0) : Type 0 where
 
 abbrev pub lent : {O P : Type 0} → List ℕ → List ℕ → List ℕ → List RuleEnd → List Assignment → List ℕ → List ℕ → O → P → Lent O P
 lent ds ws ms es ss xs bs o p = record { domains = ds; branch = ws; marks = ms; ends = es; settled = ss; plan = xs; base = bs; order = o; policy = p }
+
+-- What the regions hold, with the order and the policy.
+abbrev pub lent_in : {O P : Type 0} → Regions → O → P → Lent O P
+lent_in r o p = lent r.domains.now r.branch.now r.marks.now r.ends.now r.settled.now r.plan.now r.base.now o p
 
 -- The call as it is checked.
 abbrev pub request : {O P : Type 0} → OpenSearch → List ℕ → Meaning → ℕ → Lent O P → Request
@@ -85,7 +90,7 @@ module _ {O P H Q : Type 0} (om : OrderMeaning H) (pm : PolicyMeaning Q) (order_
   pub record Stays (t : OpenSearch) : Type 0 where
     pub comes : ComesTo unsettled t.at
     pub groups : t.groups ≡ s.groups
-    pub tells : (t.at.closings ≡ comes.end.state.closings) × (t.at.restarts ≡ comes.end.state.restarts)
+    pub tells : (t.at.counts.closings ≡ comes.end.state.closings) × (t.at.counts.restarts ≡ comes.end.state.restarts)
     pub next : Found lists (request t lists book allowance left) comes.end.state
     pub plan : left.plan ≡ found.plan
 

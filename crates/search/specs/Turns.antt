@@ -16,37 +16,46 @@ use Rattle.laws.specs.Orders.{held_after, behaviour, moved_on, cutoffs}
 use Rattle.laws.specs.Sittings.{Search, begun, blamed, Leaves, Going, Turn}
 use Rattle.search.specs.declared.held.Progress.{Progress}
 use Rattle.search.specs.declared.turns.Step.{Step}
-use Rattle.search.specs.declared.turns.Step.TheVariants.{None as EndsNone, Plan, Spent, Moved as Went, Decided}
+use Rattle.search.specs.declared.turns.Step.TheVariants.{None as EndsNone, Plan, Spent, Made}
+use Rattle.search.specs.declared.turns.Move.TheVariants.{Close, Restart, Decide}
 
 -- The state that the numbers of a search and the words of its branch and base stand for.
 abbrev pub state_of : Progress → List ℕ → List ℕ → State
 state_of p branch base = record {
   branch = branch_of branch p.branch_len;
   base = base_of (take p.base_used base);
-  moves = p.moves;
-  closings = p.closings;
-  restarts = p.restarts;
+  moves = p.counts.moves;
+  closings = p.counts.closings;
+  restarts = p.counts.restarts;
   since = p.since;
 }
 
 -- The numbers after each move.
 abbrev pub closed_at : ℕ → Progress → Progress
-closed_at last p = record { branch_len = last + 1; base_used = p.base_used; moves = p.moves + 1; closings = p.closings + 1; restarts = p.restarts; since = p.since + 1 }
+closed_at last p = record {
+  branch_len = last + 1;
+  base_used = p.base_used;
+  counts = record { moves = p.counts.moves + 1; closings = p.counts.closings + 1; restarts = p.counts.restarts };
+  since = p.since + 1;
+}
 
 abbrev pub restarted_at : List ℕ → Progress → Progress
-restarted_at branch p = record { branch_len = 0; base_used = p.base_used + length (recorded (reduced (branch_of branch p.branch_len))); moves = p.moves + 1; closings = p.closings; restarts = p.restarts + 1; since = 0 }
+restarted_at branch p = record {
+  branch_len = 0;
+  base_used = p.base_used + length (recorded (reduced (branch_of branch p.branch_len)));
+  counts = record { moves = p.counts.moves + 1; closings = p.counts.closings; restarts = p.counts.restarts + 1 };
+  since = 0;
+}
 
 abbrev pub decided_at : Progress → Progress
-decided_at p = record { branch_len = p.branch_len + 1; base_used = p.base_used; moves = p.moves + 1; closings = p.closings; restarts = p.restarts; since = p.since }
+decided_at p = record {
+  branch_len = p.branch_len + 1;
+  base_used = p.base_used;
+  counts = record { moves = p.counts.moves + 1; closings = p.counts.closings; restarts = p.counts.restarts };
+  since = p.since;
+}
 
--- The counts agree with each other, and leave room for so many moves.
-pub record Counted (left : ℕ) (p : Progress) : Type 0 where
-  pub moves : p.moves + left ≤ 100000000
-  pub closings : p.closings ≤ p.moves
-  pub restarts : p.restarts ≤ p.moves
-  pub since : p.since ≤ p.closings
-
--- The order is asked for a group and then for a channel of it, and these are taken.
+-- The order is asked for a group and then for a channel of it, and these are taken: an assignment's word.
 pub record Decides {H : Type 0} (om : OrderMeaning H) (h h' : H) (masks : List ℕ) (p p' : Progress) (branch branch' : List ℕ) : Type 0 where
   pub group : ℕ
   pub channel : ℕ
@@ -54,6 +63,7 @@ pub record Decides {H : Type 0} (om : OrderMeaning H) (h h' : H) (masks : List �
   pub channeled : om.channel (om.grouped h masks) masks group ≡ Some channel
   pub after : h' ≡ om.channeled (om.grouped h masks) masks group
   pub numbers : p' ≡ decided_at p
+  pub small : 64 * group + channel < 65536
   pub words : branch' ≡ slice_set branch p.branch_len (64 * group + channel)
 
 -- The numbers and words of a search in order: they fit the regions, the branch and the base are sound.
@@ -77,8 +87,9 @@ abbrev pub DeadTurn : {H : Type 0} → OrderMeaning H → ℕ → H → H → St
 DeadTurn om left h h' s s' EndsNone = (takens s.branch ≡ []) × (s' ≡ s) × (h' ≡ h)
 DeadTurn om left h h' s s' Plan = ⊥
 DeadTurn om left h h' s s' Spent = (left ≡ 0) × (takens s.branch ≢ []) × (s' ≡ s) × (h' ≡ h)
-DeadTurn om left h h' s s' Went = (0 < left) × (takens s.branch ≢ []) × (s' ≡ closing s) × (h' ≡ om.heard h (blamed s.branch))
-DeadTurn om left h h' s s' Decided = ⊥
+DeadTurn om left h h' s s' (Made Close) = (0 < left) × (takens s.branch ≢ []) × (s' ≡ closing s) × (h' ≡ om.heard h (blamed s.branch))
+DeadTurn om left h h' s s' (Made Restart) = ⊥
+DeadTurn om left h h' s s' (Made Decide) = ⊥
 
 -- A turn where every group keeps a channel: none keeps two, or the moves are used up, or a restart is made where it is due, and else a decision.
 pub record RestartTurn {H Q : Type 0} (pm : PolicyMeaning Q) (room : ℕ) (h h' : H) (q q' : Q) (s s' : State) : Type 0 where
@@ -101,8 +112,9 @@ abbrev pub AliveTurn : {H Q : Type 0} → OrderMeaning H → PolicyMeaning Q →
 AliveTurn om pm room left masks h h' q q' s s' EndsNone = ⊥
 AliveTurn om pm room left masks h h' q q' s s' Plan = ((g : ℕ) → Open masks g → ⊥) × (s' ≡ s) × (h' ≡ h) × (q' ≡ q)
 AliveTurn om pm room left masks h h' q q' s s' Spent = (left ≡ 0) × ((g : ℕ) × Open masks g) × (s' ≡ s) × (h' ≡ h) × (q' ≡ q)
-AliveTurn om pm room left masks h h' q q' s s' Went = (0 < left) × ((g : ℕ) × Open masks g) × RestartTurn pm room h h' q q' s s'
-AliveTurn om pm room left masks h h' q q' s s' Decided = (0 < left) × ((g : ℕ) × Open masks g) × DecideTurn om pm room masks h h' q q' s s'
+AliveTurn om pm room left masks h h' q q' s s' (Made Close) = ⊥
+AliveTurn om pm room left masks h h' q q' s s' (Made Restart) = (0 < left) × ((g : ℕ) × Open masks g) × RestartTurn pm room h h' q q' s s'
+AliveTurn om pm room left masks h h' q q' s s' (Made Decide) = (0 < left) × ((g : ℕ) × Open masks g) × DecideTurn om pm room masks h h' q q' s s'
 
 -- What a turn leaves as it was in the regions that it works in: all beyond the sizes asked for.
 pub record Beyond (groups rules : ℕ) (ds ds' ms ms' : List ℕ) (es es' : List RuleEnd) (ss ss' : List Assignment) : Type 0 where
@@ -155,5 +167,4 @@ module _ {H Q : Type 0} (lists : List ℕ) (book : Meaning) (om : OrderMeaning H
   Turned EndsNone = Same × ((ms : List ℕ) × Leaves lists book s ms × Dead lists (family ms)) × (takens s.branch ≡ [])
   Turned Plan = Same × Leaves lists book s masks × Alive lists (family masks) × ((g : ℕ) → Open masks g → ⊥)
   Turned Spent = Same × (left ≡ 0) × Going lists book s × Remaining
-  Turned Went = Moved
-  Turned Decided = Moved
+  Turned (Made _) = Moved

@@ -1,15 +1,16 @@
 // The calls on a search: open, sitting and restart.
 ghost use Rattle.std.specs.Prelude.{◌≡◌, ℕ, ◌^◌, ◌<◌, ◌≤◌, length, drop, MatchResult, slice_index, slice_index_or};
 ghost use Rattle.std.specs.Int.Count.{count_trailing_zeros};
-ghost use Rattle.search.specs.Sittings.{lent, Opened, Unopened, Answers};
+ghost use Rattle.search.specs.Regions.{SameRegions};
+ghost use Rattle.search.specs.Sittings.{lent_in, Opened, Unopened, Answers};
 ghost use Rattle.search.specs.Restarts.{RestartAnswers};
 
 use crate::held::{OpenSearch, Progress, Sat, SettledSearch};
 use crate::moves::restart as restart_move;
+use crate::regions::Regions;
 use crate::turns::{Step, turn};
-use crate::vetting::{Sizes, vet_open, vet_restart, vet_sitting};
+use crate::vetting::{vet_open, vet_restart, vet_sitting};
 use branching::{Order, RestartPolicy};
-use propagation::records::{Assignment, RuleEnd};
 use rules::book::RuleBook;
 use rules::refusal::Refusal;
 
@@ -17,31 +18,23 @@ use rules::refusal::Refusal;
 pub fn open<B: RuleBook>(lists: &[u64], book: &B) -> Result<OpenSearch, Refusal>
     ensures { MatchResult result (Opened (B.meaning book.now) lists.now) (Unopened (B.meaning book.now) lists.now) }
 {
-    if let Some(refusal) = vet_open(lists, book) {
-        return Err(refusal);
-    }
+    vet_open(lists, book)?;
     Ok(OpenSearch {
         groups: lists.len() as u16,
-        at: Progress {
-            branch_len: 0,
-            base_used: 0,
-            moves: 0,
-            closings: 0,
-            restarts: 0,
-            since: 0,
-        },
+        at: Progress::default(),
     })
 }
 
 // Writes the one channel that each group keeps.
-fn write_plan(domains: &[u64], plan: &mut [u8])
-    requires room { length domains.now ≤ length plan.old }
-    ensures written { (g : ℕ) → g < length domains.now → slice_index_or plan.new g 64 ≡ count_trailing_zeros 64 (slice_index domains.now g) }
-    ensures fits { (g : ℕ) → g < length domains.now → slice_index domains.now g < 2 ^ 64 }
-    ensures beyond { drop (length domains.now) plan.new ≡ drop (length domains.now) plan.old }
+fn write_plan(groups: usize, domains: &[u64], plan: &mut [u8])
+    requires sized { groups ≤ length domains.now }
+    requires room { groups ≤ length plan.old }
+    ensures written { (g : ℕ) → g < groups → slice_index_or plan.new g 64 ≡ count_trailing_zeros 64 (slice_index domains.now g) }
+    ensures fits { (g : ℕ) → g < groups → slice_index domains.now g < 2 ^ 64 }
+    ensures beyond { drop groups plan.new ≡ drop groups plan.old }
 {
-    for i in 0..domains.len() {
-        plan[i] = domains[i].trailing_zeros() as u8;
+    for (group, domain) in domains[..groups].iter().enumerate() {
+        plan[group] = domain.trailing_zeros() as u8;
     }
 }
 
@@ -53,53 +46,31 @@ pub fn sitting<B: RuleBook, O: Order, P: RestartPolicy>(
     order: &mut O,
     policy: &mut P,
     allowance: u32,
-    domains: &mut [u64],
-    branch: &mut [u32],
-    marks: &mut [u32],
-    ends: &mut [RuleEnd],
-    settled: &mut [Assignment],
-    plan: &mut [u8],
-    base: &mut [u32],
+    regions: &mut Regions<'_>,
 ) -> Result<Sat, (Refusal, OpenSearch)>
-    ensures { Answers O.Order.meaning P.RestartPolicy.meaning O.Order.held P.RestartPolicy.held (B.RuleBook.meaning book.now) «search» lists.now allowance (lent domains.old branch.old marks.old ends.old settled.old plan.old base.old order.old policy.old) (lent domains.new branch.new marks.new ends.new settled.new plan.new base.new order.new policy.new) result }
+    ensures answers { Answers O.Order.meaning P.RestartPolicy.meaning O.Order.held P.RestartPolicy.held (B.RuleBook.meaning book.now) «search» lists.now allowance (lent_in regions.old order.old policy.old) (lent_in regions.new order.new policy.new) result }
+    ensures same { SameRegions regions.old regions.new }
 {
-    let sizes = Sizes {
-        domains: domains.len(),
-        marks: marks.len(),
-        ends: ends.len(),
-        settled: settled.len(),
-        plan: plan.len(),
-    };
-    if let Some(refusal) = vet_sitting(&search, lists, book, allowance, sizes, branch, base) {
+    if let Err(refusal) = vet_sitting(&search, lists, book, allowance, regions) {
         return Err((refusal, search));
     }
     let OpenSearch { groups, at: start } = search;
     let mut at = start;
     let mut left = allowance;
-    let mut decided = false;
+    let mut last = None;
     'moves: loop {
-        let step = turn(
-            decided, lists, book, order, policy, left, &mut at, domains, branch, marks, ends,
-            settled, base,
-        );
-        match step {
-            Step::None => return Ok(Sat::None(SettledSearch {
-                counts: at.counts(),
-            })),
+        match turn(last, lists, book, order, policy, left, &mut at, regions) {
+            Step::None => return Ok(Sat::None(SettledSearch { counts: at.counts })),
             Step::Plan => {
-                write_plan(&domains[0..lists.len()], plan);
-                return Ok(Sat::Plan(SettledSearch {
-                    counts: at.counts(),
-                }));
+                let domains = &mut *regions.domains;
+                let plan = &mut *regions.plan;
+                write_plan(lists.len(), domains, plan);
+                return Ok(Sat::Plan(SettledSearch { counts: at.counts }));
             }
             Step::Spent => return Ok(Sat::Open(OpenSearch { groups, at })),
-            Step::Moved => {
+            Step::Made(made) => {
                 left -= 1;
-                decided = false;
-            }
-            Step::Decided => {
-                left -= 1;
-                decided = true;
+                last = Some(made);
             }
         }
     }
@@ -115,7 +86,7 @@ pub fn restart<P: RestartPolicy>(
 ) -> Result<OpenSearch, (Refusal, OpenSearch)>
     ensures { RestartAnswers P.meaning P.held «search» lists.now branch.now base.old base.new policy.old policy.new result }
 {
-    if let Some(refusal) = vet_restart(&search, lists, branch, base) {
+    if let Err(refusal) = vet_restart(&search, lists, branch, base) {
         return Err((refusal, search));
     }
     let OpenSearch { groups, at: start } = search;

@@ -1,8 +1,9 @@
 // The searches that a caller holds. An open one is handed on from call to call; a settled one is another type.
 ghost use Rattle.std.specs.Prelude.{◌≡◌, ◌*◌, ◌≤◌};
+ghost use Rattle.search.specs.Counts.{Counted};
 
 // The moves, closings and restarts made on a search since it was opened.
-#[derive(Clone, Copy, PartialEq, Eq)]
+#[derive(Clone, Copy, Debug, Default, PartialEq, Eq)]
 pub struct Counts {
     pub moves: u32,
     pub closings: u32,
@@ -10,13 +11,12 @@ pub struct Counts {
 }
 
 // How far a search has come: the used words of its branch and its base, and its counts.
-#[derive(Clone, Copy)]
+#[derive(Clone, Copy, Default)]
 pub struct Progress {
     pub(crate) branch_len: u32,
     pub(crate) base_used: u32,
-    pub(crate) moves: u32,
-    pub(crate) closings: u32,
-    pub(crate) restarts: u32,
+    pub(crate) counts: Counts,
+    // The closings since the last restart.
     pub(crate) since: u32,
 }
 
@@ -27,10 +27,7 @@ pub struct OpenSearch {
     ghost sized: { groups ≤ 200 },
     ghost within: { at.branch_len ≤ 64 * groups },
     ghost used: { at.base_used ≤ 65536 },
-    ghost counted: { at.moves ≤ 100000000 },
-    ghost closed: { at.closings ≤ at.moves },
-    ghost restarted: { at.restarts ≤ at.moves },
-    ghost lately: { at.since ≤ at.closings },
+    ghost counted: { Counted 0 at },
 }
 
 // A search that came to a plan or to "none".
@@ -46,32 +43,20 @@ pub enum Sat {
     Open(OpenSearch),
 }
 
-impl Progress {
-    pub(crate) fn counts(&self) -> Counts
-        ensures { (result.moves ≡ self.now.moves) × (result.closings ≡ self.now.closings) × (result.restarts ≡ self.now.restarts) }
-    {
-        Counts {
-            moves: self.moves,
-            closings: self.closings,
-            restarts: self.restarts,
-        }
-    }
-}
-
 impl OpenSearch {
     // What was made on the search so far.
     pub fn counts(&self) -> Counts
-        ensures { (result.moves ≡ self.now.at.moves) × (result.closings ≡ self.now.at.closings) × (result.restarts ≡ self.now.at.restarts) }
+        ensures { result ≡ self.now.at.counts }
     {
-        self.at.counts()
+        self.at.counts
     }
 
     // Gives the search up. What was closed is lost with it, and nothing is said of a plan.
     pub fn leave(self) -> Counts
-        ensures { (result.moves ≡ self.at.moves) × (result.closings ≡ self.at.closings) × (result.restarts ≡ self.at.restarts) }
+        ensures { result ≡ self.at.counts }
     {
         let OpenSearch { groups: _, at } = self;
-        at.counts()
+        at.counts
     }
 }
 

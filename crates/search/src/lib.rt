@@ -5,6 +5,7 @@ pub mod calls;
 pub mod held;
 mod moves;
 mod recording;
+pub mod regions;
 mod turns;
 mod vetting;
 mod words;

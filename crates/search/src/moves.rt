@@ -4,11 +4,13 @@ ghost use Rattle.branching.specs.Channels.{Open};
 ghost use Rattle.model.specs.Decisions.{reduced};
 ghost use Rattle.model.specs.Words.{branch_of, recorded};
 ghost use Rattle.search.specs.Branches.{LastTaken};
-ghost use Rattle.search.specs.Turns.{closed_at, restarted_at, decided_at, Counted, Decides};
+ghost use Rattle.search.specs.Counts.{Counted};
+ghost use Rattle.search.specs.Turns.{closed_at, restarted_at, decided_at, Decides};
 
 use crate::held::Progress;
 use crate::recording::record_nogoods;
 use branching::{Order, RestartPolicy, pick};
+use model::decision::assignment_word;
 
 // Close: the decisions after the one taken at `last` go, and that one becomes refused. Answers its group.
 pub(crate) fn close(at: &mut Progress, branch: &mut [u32], last: usize) -> u16
@@ -22,8 +24,8 @@ pub(crate) fn close(at: &mut Progress, branch: &mut [u32], last: usize) -> u16
     let word = branch[last];
     branch[last] = word + 65536;
     at.branch_len = last as u32 + 1;
-    at.moves += 1;
-    at.closings += 1;
+    at.counts.moves += 1;
+    at.counts.closings += 1;
     at.since += 1;
     (word / 64) as u16
 }
@@ -48,8 +50,8 @@ pub(crate) fn restart<P: RestartPolicy>(
     policy.advance();
     at.base_used = used as u32;
     at.branch_len = 0;
-    at.moves += 1;
-    at.restarts += 1;
+    at.counts.moves += 1;
+    at.counts.restarts += 1;
     at.since = 0;
 }
 
@@ -67,11 +69,10 @@ pub(crate) fn decide<O: Order>(
     requires counted { Counted 1 at.old }
     ensures decides { Decides O.meaning (O.held order.old) (O.held order.new) domains.now at.old at.new branch.old branch.new }
 {
-    if let Some((group, channel)) = pick(order, domains) {
-        branch[at.branch_len as usize] = 64 * group as u32 + channel as u32;
-        at.branch_len += 1;
-        at.moves += 1;
-    }
+    let (group, channel) = pick(order, domains).unwrap();
+    branch[at.branch_len as usize] = assignment_word(group, channel);
+    at.branch_len += 1;
+    at.counts.moves += 1;
 }
 
 // Whether some group keeps two or more channels.

@@ -1,27 +1,38 @@
 // One turn of a sitting: what remains, and then an end, a stop, or the first move that applies.
-ghost use Rattle.std.specs.Prelude.{◌≡◌, ℕ, ◌+◌, ◌*◌, ◌<◌, ◌≤◌, true, false, List, length, take, drop};
+ghost use Rattle.std.specs.Prelude.{◌≡◌, ℕ, ◌+◌, ◌*◌, ◌<◌, ◌≤◌, true, false, List, length, take, drop, Some, OnOk, OnErr};
 ghost use Rattle.branching.specs.Channels.{Open};
 ghost use Rattle.model.specs.Words.{branch_of, base_of, recorded};
 ghost use Rattle.propagation.specs.Filtered.{Lives, Dies};
-ghost use Rattle.search.specs.Turns.{state_of, Counted, Fit, DueAt, DeadTurn, AliveTurn, Beyond, KeptWords, Roomy, Fresh, Turned};
+ghost use Rattle.search.specs.Counts.{Counted};
+ghost use Rattle.search.specs.Regions.{SameRegions};
+ghost use Rattle.search.specs.Turns.{state_of, Fit, DueAt, DeadTurn, AliveTurn, Beyond, KeptWords, Roomy, Fresh, Turned};
 
 use crate::held::Progress;
 use crate::moves::{close, decide, restart, some_wide};
-use crate::words::{last_taken, words_needed};
+use crate::regions::Regions;
+use crate::words::{has_space, last_taken};
 use branching::{Order, RestartPolicy};
+use propagation::bench::{Bench, Dead};
 use propagation::decision::propagate_decision;
 use propagation::filter::propagate;
 use propagation::records::{Assignment, RuleEnd};
 use rules::book::RuleBook;
 
-// What a turn came to: an end, a stop, a close or a restart, or a decision.
+// The moves of a search.
+#[derive(Clone, Copy)]
+pub(crate) enum Move {
+    Close,
+    Restart,
+    Decide,
+}
+
+// What a turn came to: an end, a stop, or a move.
 #[derive(Clone, Copy)]
 pub(crate) enum Step {
     None,
     Plan,
     Spent,
-    Moved,
-    Decided,
+    Made(Move),
 }
 
 // A turn in a dead state, with `left` moves to go.
@@ -34,7 +45,7 @@ fn turn_dead<O: Order>(order: &mut O, left: u32, at: &mut Progress, branch: &mut
     ensures shorter { at.new.branch_len ≤ at.old.branch_len }
     ensures past { drop at.old.branch_len branch.new ≡ drop at.old.branch_len branch.old }
 {
-    match last_taken(branch, at.branch_len as usize) {
+    match last_taken(&branch[..at.branch_len as usize]) {
         None => Step::None,
         Some(last) => {
             if left == 0 {
@@ -42,7 +53,7 @@ fn turn_dead<O: Order>(order: &mut O, left: u32, at: &mut Progress, branch: &mut
             }
             let group = close(at, branch, last);
             order.told(group);
-            Step::Moved
+            Step::Made(Move::Close)
         }
     }
 }
@@ -59,7 +70,7 @@ fn is_due<P: RestartPolicy>(policy: &P, at: &Progress, branch: &[u32], base: &[u
     if policy.cutoff() > at.since {
         return false;
     }
-    words_needed(branch, at.branch_len as usize) <= base.len() - at.base_used as usize
+    has_space(at, branch, base)
 }
 
 // A turn where every group keeps a channel.
@@ -68,24 +79,27 @@ fn turn_alive<O: Order, P: RestartPolicy>(
     policy: &mut P,
     left: u32,
     at: &mut Progress,
+    groups: usize,
     domains: &[u64],
     branch: &mut [u32],
     base: &mut [u32],
 ) -> Step
-    requires few { length domains.now ≤ 200 }
-    requires within { at.old.branch_len ≤ 64 * length domains.now }
-    requires room { 64 * length domains.now ≤ length branch.old }
-    requires spare { ((g : ℕ) × Open domains.now g) → at.old.branch_len < 64 * length domains.now }
+    requires few { groups ≤ 200 }
+    requires sized { groups ≤ length domains.now }
+    requires within { at.old.branch_len ≤ 64 * groups }
+    requires room { 64 * groups ≤ length branch.old }
+    requires spare { ((g : ℕ) × Open (take groups domains.now) g) → at.old.branch_len < 64 * groups }
     requires used { at.old.base_used ≤ length base.old }
     requires short { length base.old ≤ 65536 }
     requires words { take at.old.base_used base.old ≡ recorded (base_of (take at.old.base_used base.old)) }
     requires counted { Counted left at.old }
-    ensures turn { AliveTurn O.Order.meaning P.RestartPolicy.meaning (length base.old) left domains.now (O.Order.held order.old) (O.Order.held order.new) (P.RestartPolicy.held policy.old) (P.RestartPolicy.held policy.new) (state_of at.old branch.old base.old) (state_of at.new branch.new base.new) result }
-    ensures within { at.new.branch_len ≤ 64 * length domains.now }
+    ensures turn { AliveTurn O.Order.meaning P.RestartPolicy.meaning (length base.old) left (take groups domains.now) (O.Order.held order.old) (O.Order.held order.new) (P.RestartPolicy.held policy.old) (P.RestartPolicy.held policy.new) (state_of at.old branch.old base.old) (state_of at.new branch.new base.new) result }
+    ensures within { at.new.branch_len ≤ 64 * groups }
     ensures used { at.new.base_used ≤ length base.new }
     ensures words { take at.new.base_used base.new ≡ recorded (base_of (take at.new.base_used base.new)) }
-    ensures kept { KeptWords (length domains.now) at.old.base_used at.new.base_used branch.old branch.new base.old base.new }
+    ensures kept { KeptWords groups at.old.base_used at.new.base_used branch.old branch.new base.old base.new }
 {
+    let domains = &domains[..groups];
     if !some_wide(domains) {
         return Step::Plan;
     }
@@ -94,15 +108,15 @@ fn turn_alive<O: Order, P: RestartPolicy>(
     }
     if is_due(policy, at, branch, base) {
         restart(policy, at, branch, base);
-        return Step::Moved;
+        return Step::Made(Move::Restart);
     }
     decide(order, at, domains, branch);
-    Step::Decided
+    Step::Made(Move::Decide)
 }
 
-// What remains in the state that the numbers and the words stand for; after a decision, from what remained before it. Answers false where it is dead.
+// What remains in the state that the numbers and the words stand for, unless it is dead; after a decision, from what remained before it.
 fn refresh<B: RuleBook>(
-    decided: bool,
+    last: Option<Move>,
     lists: &[u64],
     book: &B,
     at: &Progress,
@@ -112,82 +126,72 @@ fn refresh<B: RuleBook>(
     marks: &mut [u32],
     ends: &mut [RuleEnd],
     settled: &mut [Assignment],
-) -> bool
+) -> Result<(), Dead>
     requires fit { Fit lists.now at.now branch.now base.now }
     requires groups { (B.meaning book.now).groups ≡ length lists.now }
     requires rules { (B.meaning book.now).count ≤ 4096 }
     requires roomy { Roomy (length lists.now) (B.meaning book.now).count (length domains.old) (length marks.old) (length ends.old) (length settled.old) }
-    requires fresh { decided ≡ true → Fresh lists.now (B.meaning book.now) at.now branch.now base.now domains.old }
-    ensures dead { result ≡ false → Dies lists.now (B.meaning book.now) (base_of (take at.now.base_used base.now)) (branch_of branch.now at.now.branch_len) }
-    ensures lives { result ≡ true → Lives lists.now (B.meaning book.now) (base_of (take at.now.base_used base.now)) (branch_of branch.now at.now.branch_len) (take (length lists.now) domains.new) }
+    requires fresh { last ≡ Some Move.Decide → Fresh lists.now (B.meaning book.now) at.now branch.now base.now domains.old }
+    ensures dead { OnErr result (Dies lists.now (B.meaning book.now) (base_of (take at.now.base_used base.now)) (branch_of branch.now at.now.branch_len)) }
+    ensures lives { OnOk result (Lives lists.now (B.meaning book.now) (base_of (take at.now.base_used base.now)) (branch_of branch.now at.now.branch_len) (take (length lists.now) domains.new)) }
     ensures beyond { Beyond (length lists.now) (B.meaning book.now).count domains.old domains.new marks.old marks.new ends.old ends.new settled.old settled.new }
 {
-    let len = at.branch_len as usize;
-    let used = at.base_used as usize;
-    if decided {
-        return propagate_decision(
-            lists,
-            book,
-            &branch[0..len],
-            &base[0..used],
-            domains,
-            marks,
-            ends,
-            settled,
-        );
-    }
-    propagate(
-        lists,
-        book,
-        &branch[0..len],
-        &base[0..used],
+    let branch = &branch[..at.branch_len as usize];
+    let base = &base[..at.base_used as usize];
+    let mut bench = Bench {
         domains,
         marks,
         ends,
         settled,
-    )
+    };
+    match last {
+        Some(Move::Decide) => propagate_decision(lists, book, branch, base, &mut bench),
+        _ => propagate(lists, book, branch, base, &mut bench),
+    }
 }
 
-// One turn, with `left` moves to go; `decided` says that the turn before was a decision.
+// One turn, with `left` moves to go, after the last move that was made.
 pub(crate) fn turn<B: RuleBook, O: Order, P: RestartPolicy>(
-    decided: bool,
+    last: Option<Move>,
     lists: &[u64],
     book: &B,
     order: &mut O,
     policy: &mut P,
     left: u32,
     at: &mut Progress,
-    domains: &mut [u64],
-    branch: &mut [u32],
-    marks: &mut [u32],
-    ends: &mut [RuleEnd],
-    settled: &mut [Assignment],
-    base: &mut [u32],
+    regions: &mut Regions<'_>,
 ) -> Step
-    requires fit { Fit lists.now at.old branch.old base.old }
+    requires fit { Fit lists.now at.old regions.old.branch.now regions.old.base.now }
     requires counted { Counted left at.old }
     requires groups { (B.RuleBook.meaning book.now).groups ≡ length lists.now }
     requires rules { (B.RuleBook.meaning book.now).count ≤ 4096 }
-    requires roomy { Roomy (length lists.now) (B.RuleBook.meaning book.now).count (length domains.old) (length marks.old) (length ends.old) (length settled.old) }
-    requires fresh { decided ≡ true → Fresh lists.now (B.RuleBook.meaning book.now) at.old branch.old base.old domains.old }
-    ensures turned { Turned lists.now (B.RuleBook.meaning book.now) O.Order.meaning P.RestartPolicy.meaning (length base.old) left (take (length lists.now) domains.new) (O.Order.held order.old) (O.Order.held order.new) (P.RestartPolicy.held policy.old) (P.RestartPolicy.held policy.new) (state_of at.old branch.old base.old) (state_of at.new branch.new base.new) result }
-    ensures fit { Fit lists.now at.new branch.new base.new }
-    ensures fresh { result ≡ Step.Decided → Fresh lists.now (B.RuleBook.meaning book.now) at.new branch.new base.new domains.new }
-    ensures beyond { Beyond (length lists.now) (B.RuleBook.meaning book.now).count domains.old domains.new marks.old marks.new ends.old ends.new settled.old settled.new }
-    ensures kept { KeptWords (length lists.now) at.old.base_used at.new.base_used branch.old branch.new base.old base.new }
+    requires roomy { Roomy (length lists.now) (B.RuleBook.meaning book.now).count (length regions.old.domains.now) (length regions.old.marks.now) (length regions.old.ends.now) (length regions.old.settled.now) }
+    requires fresh { last ≡ Some Move.Decide → Fresh lists.now (B.RuleBook.meaning book.now) at.old regions.old.branch.now regions.old.base.now regions.old.domains.now }
+    ensures same { SameRegions regions.old regions.new }
+    ensures turned { Turned lists.now (B.RuleBook.meaning book.now) O.Order.meaning P.RestartPolicy.meaning (length regions.old.base.now) left (take (length lists.now) regions.new.domains.now) (O.Order.held order.old) (O.Order.held order.new) (P.RestartPolicy.held policy.old) (P.RestartPolicy.held policy.new) (state_of at.old regions.old.branch.now regions.old.base.now) (state_of at.new regions.new.branch.now regions.new.base.now) result }
+    ensures fit { Fit lists.now at.new regions.new.branch.now regions.new.base.now }
+    ensures fresh { result ≡ Step.Made Move.Decide → Fresh lists.now (B.RuleBook.meaning book.now) at.new regions.new.branch.now regions.new.base.now regions.new.domains.now }
+    ensures beyond { Beyond (length lists.now) (B.RuleBook.meaning book.now).count regions.old.domains.now regions.new.domains.now regions.old.marks.now regions.new.marks.now regions.old.ends.now regions.new.ends.now regions.old.settled.now regions.new.settled.now }
+    ensures kept { KeptWords (length lists.now) at.old.base_used at.new.base_used regions.old.branch.now regions.new.branch.now regions.old.base.now regions.new.base.now }
+    ensures plan { regions.new.plan.now ≡ regions.old.plan.now }
 {
-    if !refresh(
-        decided, lists, book, at, branch, base, domains, marks, ends, settled,
-    ) {
-        return turn_dead(order, left, at, branch);
-    }
-    turn_alive(
-        order,
-        policy,
-        left,
+    let branch = &mut *regions.branch;
+    let base = &mut *regions.base;
+    let domains = &mut *regions.domains;
+    let remains = refresh(
+        last,
+        lists,
+        book,
         at,
-        &domains[0..lists.len()],
         branch,
         base,
-    )
+        domains,
+        regions.marks,
+        regions.ends,
+        regions.settled,
+    );
+    if let Err(Dead) = remains {
+        return turn_dead(order, left, at, branch);
+    }
+    turn_alive(order, policy, left, at, lists.len(), domains, branch, base)
 }

@@ -1,124 +1,99 @@
 // What a call is refused for, checked in the order of the call, with nothing written.
-ghost use Rattle.std.specs.Prelude.{◌≡◌, ℕ, ◌+◌, ◌*◌, ◌<◌, ◌≤◌, true, ◌&&◌, List, ◌∷◌, length, Some, None, MatchOption, ◌==◌, nat_le, nat_lt, slice_index};
-ghost use Rattle.rules.specs.Refusals.{told};
-ghost use Rattle.model.specs.Decisions.{Decision, taken, refused, word as assigned};
-ghost use Rattle.model.specs.Words.{decision, branch_of};
-ghost use Rattle.model.specs.Lists.{all};
+ghost use Rattle.std.specs.Prelude.{◌≡◌, ℕ, ◌+◌, ◌*◌, ◌<◌, ◌≤◌, true, ◌&&◌, List, [], ◌∷◌, length, take, OnOk, ◌==◌, nat_le, nat_lt};
+ghost use Rattle.std.specs.List.{list_all};
+ghost use Rattle.rules.specs.Refusals.{numbered, placed};
+ghost use Rattle.rules.specs.Channels.{has};
+ghost use Rattle.model.specs.Masks.{grp, chan};
+ghost use Rattle.model.specs.Decisions.{Decision as Decided, word as assigned};
+ghost use Rattle.model.specs.Said.{said};
+ghost use Rattle.model.specs.Words.{branch_of};
 ghost use Rattle.laws.specs.Words.{listed?, free?, branch?, nogood?, base?};
-ghost use Rattle.laws.specs.Requests.{empty_from, first_of, open_refusal, sitting_refusal, restart_refusal};
+ghost use Rattle.laws.specs.Requests.{unless, empty_from, open_refusal, sitting_refusal, restart_refusal};
 ghost use Rattle.search.specs.Restarts.{recall};
-ghost use Rattle.search.specs.Calls.{asking, opening, word_checks, nogood_checks, FreeFor};
+ghost use Rattle.search.specs.Regions.{sizes};
+ghost use Rattle.search.specs.Calls.{asking, opening, Vets, FreeFor};
 
 use crate::held::OpenSearch;
-use crate::words::words_needed;
+use crate::regions::Regions;
+use crate::words::has_space;
+use model::decision::{Decision, channel_of, group_of};
 use propagation::bits::{holds, without};
 use rules::book::RuleBook;
 use rules::refusal::Refusal;
 
-// The sizes of the regions that a sitting only writes.
-#[derive(Clone, Copy)]
-pub(crate) struct Sizes {
-    pub(crate) domains: usize,
-    pub(crate) marks: usize,
-    pub(crate) ends: usize,
-    pub(crate) settled: usize,
-    pub(crate) plan: usize,
-}
-
-// Whether there are 1 to 200 lists, a book for as many groups, and at most 4,096 rules.
-fn counts_agree(lists: usize, groups: u16, rules: u32) -> bool
-    ensures { result ≡ ((nat_le 1 lists && nat_le lists 200) && (groups == lists && nat_le rules 4096)) }
-{
-    lists >= 1 && lists <= 200 && (groups as usize == lists && rules <= 4096)
-}
-
-// The same, and that the search has as many groups.
-fn counts_fit(lists: usize, groups: u16, rules: u32, searched: u16) -> bool
-    ensures { result ≡ ((nat_le 1 lists && nat_le lists 200) && ((groups == lists && nat_le rules 4096) && searched == lists)) }
-{
-    lists >= 1
-        && lists <= 200
-        && (groups as usize == lists && rules <= 4096 && searched as usize == lists)
-}
-
-// The lowest group whose list is empty.
-fn first_empty(lists: &[u64]) -> Option<usize>
-    ensures { MatchOption result (empty_from 0 lists.now ≡ None) (λ g. empty_from 0 lists.now ≡ Some (3, g)) }
-{
-    for i in 0..lists.len() {
-        if lists[i] == 0 {
-            return Some(i);
-        }
-    }
-    None
-}
-
-// Whether the regions are large enough, and the base not too large.
-fn regions_fit(groups: u16, rules: u32, used: u32, sizes: Sizes, branch: usize, base: usize) -> bool
-    requires few { rules ≤ 4096 }
-    ensures { result ≡ ((nat_le used base && nat_le base 65536) && (nat_le (64 * groups) branch && ((nat_le groups sizes.domains && nat_le 256 sizes.marks) && ((nat_le (2 * rules) sizes.ends && nat_le groups sizes.settled) && nat_le groups sizes.plan)))) }
+// Whether the regions that a sitting only writes are large enough for so many groups and rules.
+fn work_fits(regions: &Regions<'_>, groups: u16, rules: u32) -> bool
+    ensures { result ≡ ((nat_le groups (length regions.now.domains.now) && nat_le 256 (length regions.now.marks.now)) && ((nat_le (2 * rules) (length regions.now.ends.now) && nat_le groups (length regions.now.settled.now)) && nat_le groups (length regions.now.plan.now))) }
 {
     let n = groups as usize;
-    (used as usize <= base && base <= 65536)
-        && (64 * n <= branch
-            && ((n <= sizes.domains && 256 <= sizes.marks)
-                && ((2 * rules as usize <= sizes.ends && n <= sizes.settled) && n <= sizes.plan)))
+    (n <= regions.domains.len() && 256 <= regions.marks.len())
+        && ((2 * rules as usize <= regions.ends.len() && n <= regions.settled.len())
+            && n <= regions.plan.len())
 }
 
-// Takes the decision of a word where its assignment is listed and free: `free` has the channels of each group that are.
-fn admit(free: &mut [u64], groups: usize, word: u32) -> bool
-    requires within { groups ≤ length free.old }
-    ensures verdict { (lists : List ℕ) (ds : List Decision) → length lists ≡ groups → FreeFor lists free.old ds → result ≡ (listed? lists (assigned (decision word)) && free? (assigned (decision word)) ds) }
-    ensures after { result ≡ true → (lists : List ℕ) (ds : List Decision) → length lists ≡ groups → FreeFor lists free.old ds → FreeFor lists free.new (decision word ∷ ds) }
+// Goes on where a test was passed.
+fn refuse_unless(passed: bool, refusal: Refusal) -> Result<(), Refusal>
+    requires placeless { placed refusal ≡ 0 }
+    ensures vets { Vets result (unless passed (numbered refusal)) }
+    ensures passed { OnOk result (passed ≡ true) }
 {
-    if word < 65536 {
-        return admit_taken(free, groups, word);
-    }
-    admit_refused(free, groups, word - 65536)
+    if passed { Ok(()) } else { Err(refusal) }
 }
 
-// The same of an assignment taken: its group has none free any more.
-fn admit_taken(free: &mut [u64], groups: usize, word: u32) -> bool
-    requires within { groups ≤ length free.old }
-    ensures verdict { (lists : List ℕ) (ds : List Decision) → length lists ≡ groups → FreeFor lists free.old ds → result ≡ (listed? lists word && free? word ds) }
-    ensures after { result ≡ true → (lists : List ℕ) (ds : List Decision) → length lists ≡ groups → FreeFor lists free.old ds → FreeFor lists free.new (taken word ∷ ds) }
+// Whether there are 1 to 200 lists.
+fn in_range(lists: &[u64]) -> bool
+    ensures { result ≡ (nat_le 1 (length lists.now) && nat_le (length lists.now) 200) }
 {
-    let group = (word / 64) as usize;
-    if group >= groups {
+    (1..=200).contains(&lists.len())
+}
+
+// Whether the book is for as many groups, with at most 4,096 rules.
+fn book_agrees<B: RuleBook>(lists: &[u64], book: &B) -> bool
+    ensures { result ≡ ((B.meaning book.now).groups == length lists.now && nat_le (B.meaning book.now).count 4096) }
+{
+    book.groups() as usize == lists.len() && book.count() <= 4096
+}
+
+// Goes on where no list is empty.
+fn vet_lists(lists: &[u64]) -> Result<(), Refusal>
+    ensures { Vets result (empty_from 0 lists.now) }
+{
+    match lists.iter().position(|list| *list == 0) {
+        Some(group) => Err(Refusal::EmptyList(group)),
+        None => Ok(()),
+    }
+}
+
+// Whether the regions of the branch and the base are large enough, and the base not too large.
+fn words_fit(search: &OpenSearch, branch: &[u32], base: &[u32]) -> bool
+    ensures { result ≡ ((nat_le «search».now.at.base_used (length base.now) && nat_le (length base.now) 65536) && nat_le (64 * «search».now.groups) (length branch.now)) }
+{
+    let used = search.at.base_used as usize;
+    (used <= base.len() && base.len() <= 65536) && 64 * search.groups as usize <= branch.len()
+}
+
+// What of a group's free channels stays free after a decision on one of its assignments.
+fn stays_free(free: u64, decision: Decision) -> u64
+    ensures { (w : ℕ) → grp w ≡ grp (assigned (said decision)) → has result (chan w) ≡ (has free (chan w) && free? w (said decision ∷ [])) }
+{
+    match decision {
+        Decision::Taken(_) => 0,
+        Decision::Refused(assignment) => without(free, channel_of(assignment)),
+    }
+}
+
+// Makes the decision where its assignment is listed and free: `free` has the channels of each group that are.
+fn admit(free: &mut [u64], decision: Decision) -> bool
+    ensures verdict { (lists : List ℕ) (ds : List Decided) → length lists ≡ length free.old → FreeFor lists free.old ds → result ≡ (listed? lists (assigned (said decision)) && free? (assigned (said decision)) ds) }
+    ensures after { result ≡ true → (lists : List ℕ) (ds : List Decided) → length lists ≡ length free.old → FreeFor lists free.old ds → FreeFor lists free.new (said decision ∷ ds) }
+{
+    let (Decision::Taken(assignment) | Decision::Refused(assignment)) = decision;
+    let group = group_of(assignment);
+    if group >= free.len() || !holds(free[group], channel_of(assignment)) {
         return false;
     }
-    if !holds(free[group], (word % 64) as u8) {
-        return false;
-    }
-    free[group] = 0;
+    free[group] = stays_free(free[group], decision);
     true
-}
-
-// The same of an assignment refused: its channel is not free any more.
-fn admit_refused(free: &mut [u64], groups: usize, word: u32) -> bool
-    requires within { groups ≤ length free.old }
-    ensures verdict { (lists : List ℕ) (ds : List Decision) → length lists ≡ groups → FreeFor lists free.old ds → result ≡ (listed? lists word && free? word ds) }
-    ensures after { result ≡ true → (lists : List ℕ) (ds : List Decision) → length lists ≡ groups → FreeFor lists free.old ds → FreeFor lists free.new (refused word ∷ ds) }
-{
-    let group = (word / 64) as usize;
-    let channel = (word % 64) as u8;
-    if group >= groups {
-        return false;
-    }
-    if !holds(free[group], channel) {
-        return false;
-    }
-    free[group] = without(free[group], channel);
-    true
-}
-
-// Copies the lists to the front of `free`.
-fn copy_lists(free: &mut [u64], lists: &[u64])
-    requires within { length lists.now ≤ length free.old }
-    ensures { (g : ℕ) → g < length lists.now → slice_index free.new g ≡ slice_index lists.now g }
-{
-    let n = lists.len();
-    free[0..n].copy_from_slice(lists);
 }
 
 // Whether the words are decisions on listed assignments, none twice and none of a group taken before.
@@ -126,11 +101,11 @@ fn branch_sound(lists: &[u64], branch: &[u32]) -> bool
     requires few { length lists.now ≤ 200 }
     ensures { result ≡ branch? lists.now (branch_of branch.now (length branch.now)) }
 {
-    let n = lists.len();
-    let mut free = [0u64; 200];
-    copy_lists(&mut free, lists);
-    for i in 0..branch.len() {
-        if !admit(&mut free, n, branch[i]) {
+    let mut room = [0u64; 200];
+    let free = &mut room[..lists.len()];
+    free.copy_from_slice(lists);
+    for word in branch {
+        if !admit(free, Decision::from(*word)) {
             return false;
         }
     }
@@ -139,14 +114,9 @@ fn branch_sound(lists: &[u64], branch: &[u32]) -> bool
 
 // Whether no word is a refusal.
 fn all_taken(words: &[u32]) -> bool
-    ensures { result ≡ all (λ w. nat_lt w 65536) words.now }
+    ensures { result ≡ list_all (λ w. nat_lt w 65536) words.now }
 {
-    for w in words {
-        if *w >= 65536 {
-            return false;
-        }
-    }
-    true
+    words.iter().all(|word| *word < 65536)
 }
 
 // Whether the words are one or more listed assignments, no two of one group.
@@ -154,13 +124,7 @@ fn nogood_sound(lists: &[u64], words: &[u32]) -> bool
     requires few { length lists.now ≤ 200 }
     ensures { result ≡ nogood? lists.now words.now }
 {
-    if words.is_empty() {
-        return false;
-    }
-    if !all_taken(words) {
-        return false;
-    }
-    branch_sound(lists, words)
+    !words.is_empty() && all_taken(words) && branch_sound(lists, words)
 }
 
 // Whether the words are whole nogoods.
@@ -168,57 +132,47 @@ fn base_sound(lists: &[u64], base: &[u32]) -> bool
     requires few { length lists.now ≤ 200 }
     ensures { result ≡ base? lists.now base.now }
 {
-    let mut pos = 0usize;
-    while pos < base.len() {
-        let n = base[pos] as usize;
-        if n > base.len() - (pos + 1) {
+    let mut rest = base;
+    while let Some((count, words)) = rest.split_first() {
+        let count = *count as usize;
+        if count > words.len() {
             return false;
         }
-        if !nogood_sound(lists, &base[pos + 1..pos + 1 + n]) {
+        let (nogood, after) = words.split_at(count);
+        if !nogood_sound(lists, nogood) {
             return false;
         }
-        pos += 1 + n;
+        rest = after;
     }
     true
 }
 
-// Whether the allowance is 1 to 1,000,000.
-fn allowance_fits(allowance: u32) -> bool
-    ensures { result ≡ (nat_le 1 allowance && nat_le allowance 1000000) }
-{
-    allowance >= 1 && allowance <= 1_000_000
-}
-
 // Why an open is refused.
-pub(crate) fn vet_open<B: RuleBook>(lists: &[u64], book: &B) -> Option<Refusal>
-    ensures { MatchOption result (open_refusal (opening lists.now (B.meaning book.now).groups (B.meaning book.now).count) ≡ None) (λ e. open_refusal (opening lists.now (B.meaning book.now).groups (B.meaning book.now).count) ≡ Some (told e)) }
+pub(crate) fn vet_open<B: RuleBook>(lists: &[u64], book: &B) -> Result<(), Refusal>
+    ensures { Vets result (open_refusal (opening lists.now (B.meaning book.now).groups (B.meaning book.now).count)) }
 {
-    if !counts_agree(lists.len(), book.groups(), book.count()) {
-        return Some(Refusal::Counts);
-    }
-    match first_empty(lists) {
-        Some(group) => Some(Refusal::EmptyList(group)),
-        None => None,
-    }
+    refuse_unless(in_range(lists) && book_agrees(lists, book), Refusal::Counts)?;
+    vet_lists(lists)
 }
 
-// Why the words of a search that is sat on are refused, its counts and regions being fine.
-fn vet_words(search: &OpenSearch, lists: &[u64], branch: &[u32], base: &[u32]) -> Option<Refusal>
+// Goes on where the branch of a search is sound.
+fn vet_branch(search: &OpenSearch, lists: &[u64], branch: &[u32]) -> Result<(), Refusal>
     requires few { length lists.now ≤ 200 }
-    requires branch { «search».now.at.branch_len ≤ length branch.now }
-    requires base { «search».now.at.base_used ≤ length base.now }
-    ensures { MatchOption result (first_of (word_checks «search».now.groups «search».now.at lists.now branch.now base.now) ≡ None) (λ e. first_of (word_checks «search».now.groups «search».now.at lists.now branch.now base.now) ≡ Some (told e)) }
+    requires within { «search».now.at.branch_len ≤ length branch.now }
+    ensures { Vets result (unless (branch? lists.now (branch_of branch.now «search».now.at.branch_len)) 13) }
 {
-    if !branch_sound(lists, &branch[0..search.at.branch_len as usize]) {
-        return Some(Refusal::BranchDisturbed);
-    }
-    if !base_sound(lists, &base[0..search.at.base_used as usize]) {
-        return Some(Refusal::BaseDisturbed);
-    }
-    if search.at.branch_len >= 64 * search.groups as u32 {
-        return Some(Refusal::BranchFull);
-    }
-    None
+    let branch = &branch[..search.at.branch_len as usize];
+    refuse_unless(branch_sound(lists, branch), Refusal::BranchDisturbed)
+}
+
+// Goes on where the used words of a base are sound.
+fn vet_base(search: &OpenSearch, lists: &[u64], base: &[u32]) -> Result<(), Refusal>
+    requires few { length lists.now ≤ 200 }
+    requires within { «search».now.at.base_used ≤ length base.now }
+    ensures { Vets result (unless (base? lists.now (take «search».now.at.base_used base.now)) 16) }
+{
+    let base = &base[..search.at.base_used as usize];
+    refuse_unless(base_sound(lists, base), Refusal::BaseDisturbed)
 }
 
 // Why a sitting is refused.
@@ -227,75 +181,29 @@ pub(crate) fn vet_sitting<B: RuleBook>(
     lists: &[u64],
     book: &B,
     allowance: u32,
-    sizes: Sizes,
-    branch: &[u32],
-    base: &[u32],
-) -> Option<Refusal>
-    ensures { MatchOption result (sitting_refusal (asking «search».now.groups «search».now.at lists.now (B.meaning book.now).groups (B.meaning book.now).count allowance sizes branch.now base.now) ≡ None) (λ e. sitting_refusal (asking «search».now.groups «search».now.at lists.now (B.meaning book.now).groups (B.meaning book.now).count allowance sizes branch.now base.now) ≡ Some (told e)) }
+    regions: &Regions<'_>,
+) -> Result<(), Refusal>
+    ensures { Vets result (sitting_refusal (asking «search».now.groups «search».now.at lists.now (B.meaning book.now).groups (B.meaning book.now).count allowance (sizes regions.now) regions.now.branch.now regions.now.base.now)) }
 {
-    let rules = book.count();
-    if !counts_fit(lists.len(), book.groups(), rules, search.groups) {
-        return Some(Refusal::Counts);
-    }
-    if let Some(group) = first_empty(lists) {
-        return Some(Refusal::EmptyList(group));
-    }
-    if !regions_fit(
-        search.groups,
-        rules,
-        search.at.base_used,
-        sizes,
-        branch.len(),
-        base.len(),
-    ) {
-        return Some(Refusal::RegionTooShort);
-    }
-    if !allowance_fits(allowance) {
-        return Some(Refusal::Allowance);
-    }
-    if search.at.moves + allowance > 100_000_000 {
-        return Some(Refusal::TooManyMoves);
-    }
-    vet_words(search, lists, branch, base)
-}
-
-// Whether there are 1 to 200 lists, and the search has as many groups.
-fn groups_fit(lists: usize, searched: u16) -> bool
-    ensures { result ≡ ((nat_le 1 lists && nat_le lists 200) && searched == lists) }
-{
-    (lists >= 1 && lists <= 200) && searched as usize == lists
-}
-
-// Whether the regions of the branch and the base are large enough, and the base not too large.
-fn words_fit(groups: u16, used: u32, branch: usize, base: usize) -> bool
-    ensures { result ≡ ((nat_le used base && nat_le base 65536) && nat_le (64 * groups) branch) }
-{
-    (used as usize <= base && base <= 65536) && 64 * groups as usize <= branch
-}
-
-// Why the words of a search that is restarted are refused, its counts and regions being fine.
-fn vet_nogoods(search: &OpenSearch, lists: &[u64], branch: &[u32], base: &[u32]) -> Option<Refusal>
-    requires few { length lists.now ≤ 200 }
-    requires short { «search».now.at.branch_len ≤ 12800 }
-    requires branch { «search».now.at.branch_len ≤ length branch.now }
-    requires base { «search».now.at.base_used ≤ length base.now }
-    ensures { MatchOption result (first_of (nogood_checks «search».now.at lists.now branch.now base.now) ≡ None) (λ e. first_of (nogood_checks «search».now.at lists.now branch.now base.now) ≡ Some (told e)) }
-{
-    let len = search.at.branch_len as usize;
-    let used = search.at.base_used as usize;
-    if !branch_sound(lists, &branch[0..len]) {
-        return Some(Refusal::BranchDisturbed);
-    }
-    if !base_sound(lists, &base[0..used]) {
-        return Some(Refusal::BaseDisturbed);
-    }
-    if search.at.since == 0 {
-        return Some(Refusal::NothingClosed);
-    }
-    if words_needed(branch, len) > base.len() - used {
-        return Some(Refusal::BaseFull);
-    }
-    None
+    let as_many = search.groups as usize == lists.len();
+    refuse_unless(
+        in_range(lists) && (book_agrees(lists, book) && as_many),
+        Refusal::Counts,
+    )?;
+    vet_lists(lists)?;
+    let branch = &*regions.branch;
+    let base = &*regions.base;
+    let fits = words_fit(search, branch, base) && work_fits(regions, search.groups, book.count());
+    refuse_unless(fits, Refusal::RegionTooShort)?;
+    refuse_unless((1..=1_000_000).contains(&allowance), Refusal::Allowance)?;
+    refuse_unless(
+        search.at.counts.moves + allowance <= 100_000_000,
+        Refusal::TooManyMoves,
+    )?;
+    vet_branch(search, lists, branch)?;
+    vet_base(search, lists, base)?;
+    let full = search.at.branch_len >= 64 * search.groups as u32;
+    refuse_unless(!full, Refusal::BranchFull)
 }
 
 // Why a restart is refused.
@@ -304,20 +212,16 @@ pub(crate) fn vet_restart(
     lists: &[u64],
     branch: &[u32],
     base: &[u32],
-) -> Option<Refusal>
-    ensures { MatchOption result (restart_refusal (recall «search».now lists.now branch.now base.now) ≡ None) (λ e. restart_refusal (recall «search».now lists.now branch.now base.now) ≡ Some (told e)) }
+) -> Result<(), Refusal>
+    ensures { Vets result (restart_refusal (recall «search».now lists.now branch.now base.now)) }
 {
-    if !groups_fit(lists.len(), search.groups) {
-        return Some(Refusal::Counts);
-    }
-    if let Some(group) = first_empty(lists) {
-        return Some(Refusal::EmptyList(group));
-    }
-    if !words_fit(search.groups, search.at.base_used, branch.len(), base.len()) {
-        return Some(Refusal::RegionTooShort);
-    }
-    if search.at.moves + 1 > 100_000_000 {
-        return Some(Refusal::TooManyMoves);
-    }
-    vet_nogoods(search, lists, branch, base)
+    let as_many = search.groups as usize == lists.len();
+    refuse_unless(in_range(lists) && as_many, Refusal::Counts)?;
+    vet_lists(lists)?;
+    refuse_unless(words_fit(search, branch, base), Refusal::RegionTooShort)?;
+    refuse_unless(search.at.counts.moves < 100_000_000, Refusal::TooManyMoves)?;
+    vet_branch(search, lists, branch)?;
+    vet_base(search, lists, base)?;
+    refuse_unless(search.at.since != 0, Refusal::NothingClosed)?;
+    refuse_unless(has_space(&search.at, branch, base), Refusal::BaseFull)
 }

@@ -1,36 +1,41 @@
 // What the words of a branch say: its last decision taken, and the space that its nogoods want.
-ghost use Rattle.std.specs.Prelude.{◌≡◌, ◌≤◌, [], length, MatchOption};
+ghost use Rattle.std.specs.Prelude.{◌≡◌, ◌+◌, ◌≤◌, [], length, nat_le, MatchOption};
 ghost use Rattle.model.specs.Decisions.{takens, reduced};
 ghost use Rattle.model.specs.Words.{branch_of, recorded};
 ghost use Rattle.search.specs.Branches.{LastTaken};
 
-// The place of the last decision taken, among the first `len` words.
-pub(crate) fn last_taken(branch: &[u32], len: usize) -> Option<usize>
-    requires { len ≤ length branch.now }
-    ensures { MatchOption result (takens (branch_of branch.now len) ≡ []) (λ j. LastTaken branch.now len j) }
+use crate::held::Progress;
+
+// The place of the last decision taken.
+pub(crate) fn last_taken(branch: &[u32]) -> Option<usize>
+    ensures { MatchOption result (takens (branch_of branch.now (length branch.now)) ≡ []) (λ j. LastTaken branch.now (length branch.now) j) }
 {
-    for i in (0..len).rev() {
-        if branch[i] < 65536 {
-            return Some(i);
-        }
-    }
-    None
+    branch.iter().rposition(|word| *word < 65536)
 }
 
 // How many words the reduced nogoods of the branch take in the base.
-pub(crate) fn words_needed(branch: &[u32], len: usize) -> usize
-    requires within { len ≤ length branch.now }
-    requires few { len ≤ 12800 }
-    ensures { result ≡ length (recorded (reduced (branch_of branch.now len))) }
+fn words_needed(branch: &[u32]) -> usize
+    requires few { length branch.now ≤ 12800 }
+    ensures { result ≡ length (recorded (reduced (branch_of branch.now (length branch.now)))) }
 {
     let mut taken = 0usize;
     let mut words = 0usize;
-    for i in 0..len {
-        if branch[i] < 65536 {
+    for word in branch {
+        if *word < 65536 {
             taken += 1;
         } else {
             words += taken + 2;
         }
     }
     words
+}
+
+// Whether the base has the space for the reduced nogoods of the branch, after its used words.
+pub(crate) fn has_space(at: &Progress, branch: &[u32], base: &[u32]) -> bool
+    requires within { at.now.branch_len ≤ length branch.now }
+    requires few { at.now.branch_len ≤ 12800 }
+    requires used { at.now.base_used ≤ length base.now }
+    ensures { result ≡ nat_le (at.now.base_used + length (recorded (reduced (branch_of branch.now at.now.branch_len)))) (length base.now) }
+{
+    words_needed(&branch[..at.branch_len as usize]) <= base.len() - at.base_used as usize
 }

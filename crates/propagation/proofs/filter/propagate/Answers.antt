@@ -1,26 +1,19 @@
-use Rattle.std.proofs.Common.{◌≡◌, ℕ, ◌-◌, ◌*◌, List, length, take, sym, ap, subst, arith}
-use Rattle.model.specs.Words.{branch_of}
-use Rattle.std.proofs.lemmas.List.{take_at, length-take}
-use Rattle.model.specs.Words.{base_of}
-use Rattle.propagation.specs.Filtered.{Lives}
+use Rattle.std.proofs.Common.{◌≡◌, ℕ, ◌*◌, length, ap, arith}
 use Rattle.propagation.proofs.Fronts.{past_part, past_part_at}
 use Rattle.propagation.proofs.filter.propagate.Goals as goal
 
-pub returns : goal.returns
-returns g c =
-    let m = g.B.RuleBook.meaning c.args.book.now in
-    let ls = c.args.lists.now in
-    let ws = c.args.branch.now in
-    let base = base_of c.args.base.now in
-    let n = length ls in
+pub returns-clause-beyond : goal.returns-clause-beyond
+returns-clause-beyond g c =
+    let n = length c.args.lists.now in
     let k = 2 * c.count.result in
-    let ek : k ≡ 2 * m.count = ap (λ (x : ℕ). 2 * x) c.count.ensures in
-    let front : take n _ ≡ c.filter.new.domains = take_at c.filter.new.domains _ n (omega (arith, c.filter.auto.domains, length-take (n - 0) c.args.domains.now, c.requires.size)) in
+    let m = 2 * (g.B.RuleBook.meaning c.args.book.now).count in
+    let same : k ≡ m = ap (λ (x : ℕ). 2 * x) c.count.ensures in
+    let b = c.args.bench.now in
+    let b' = c.filter.new in
+    let r = c.requires.roomy in
     record {
-      dead = c.filter.ensures.dead;
-      lives = λ e. subst (λ (x : List ℕ). Lives ls m base (branch_of ws (length ws)) x) (sym front) (c.filter.ensures.lives e);
-      beyond = past_part c.args.domains.now c.filter.new.domains n c.requires.size c.filter.auto.domains;
-      unmarked = past_part c.args.marks.now c.filter.new.marks 256 c.requires.words c.filter.auto.marks;
-      unqueued = past_part_at c.args.ends.now c.filter.new.ends k (2 * m.count) ek (omega (arith, c.requires.places, ek)) c.filter.auto.ends;
-      unsettled = past_part c.args.settled.now c.filter.new.settled n c.requires.slots c.filter.auto.settled;
+      domains = past_part b.domains.now b'.domains n r.domains c.filter.auto.domains;
+      marks = past_part b.marks.now b'.marks 256 r.marks c.filter.auto.marks;
+      ends = past_part_at b.ends.now b'.ends k m same (omega (arith, r.ends, same)) c.filter.auto.ends;
+      settled = past_part b.settled.now b'.settled n r.settled c.filter.auto.settled;
     }

@@ -13,16 +13,16 @@ use Rattle.laws.proofs.Runs.{refused_continues, restart_continues}
 use Rattle.search.specs.Restarts.{recall}
 use Rattle.search.proofs.calls.restart.Goals as goal
 
-pub returns-in-Some : goal.returns-in-Some
-returns-in-Some g c =
+pub returns-in-Err : goal.returns-in-Err
+returns-in-Err g c =
     let q = recall c.args.search c.args.lists.now c.args.branch.now c.args.base.now in
-    let e = c.in-Some.ensures in
+    let e = c.in-Err.ensures in
     record {
       number = e;
       handed_back = refl;
       same_base = refl;
       same_policy = refl;
-      continues = λ own meant l t f. refused_continues own meant l t q f (told c.in-Some.refusal).0 (told c.in-Some.refusal).1 (inr e);
+      continues = λ own meant l t f. refused_continues own meant l t q f (told c.in-Err.refusal).0 (told c.in-Err.refusal).1 (inr e);
     }
 
 pub restart-requires : goal.restart-requires
@@ -40,16 +40,16 @@ invariant_of-result g c =
     let new = length (recorded (reduced (branch_of c.args.branch.now p.branch_len))) in
     let u : c.restart.new.at.base_used ≡ p.base_used + new = ap (λ (x : Progress). x.base_used) e in
     let l : c.restart.new.at.branch_len ≡ 0 = ap (λ (x : Progress). x.branch_len) e in
-    let m : c.restart.new.at.moves ≡ p.moves + 1 = ap (λ (x : Progress). x.moves) e in
-    let d : c.restart.new.at.closings ≡ p.closings = ap (λ (x : Progress). x.closings) e in
-    let r : c.restart.new.at.restarts ≡ p.restarts + 1 = ap (λ (x : Progress). x.restarts) e in
+    let m : c.restart.new.at.counts.moves ≡ p.counts.moves + 1 = ap (λ (x : Progress). x.counts.moves) e in
+    let d : c.restart.new.at.counts.closings ≡ p.counts.closings = ap (λ (x : Progress). x.counts.closings) e in
+    let r : c.restart.new.at.counts.restarts ≡ p.counts.restarts + 1 = ap (λ (x : Progress). x.counts.restarts) e in
     let s : c.restart.new.at.since ≡ 0 = ap (λ (x : Progress). x.since) e in
     let a = y.space in
     let b = y.fit.base_room in
     let m' = k.moves in
     let d' = k.closings in
     let r' = k.restarts in
-    record { sized = c.args.search.sized; within = omega arith; used = omega arith; counted = omega arith; closed = omega arith; restarted = omega arith; lately = omega arith }
+    record { sized = c.args.search.sized; within = omega arith; used = omega arith; counted = record { moves = omega arith; closings = omega arith; restarts = omega arith; since = omega arith } }
 
 pub returns : goal.returns
 returns g c =
@@ -79,5 +79,5 @@ returns g c =
       past = ap (λ k. drop k bs') used ∙ past_words p ws bs bs' f.base_in f.words wrote ∙ ap (λ k. drop k bs) (sym used);
       policy = e.policy;
       next = λ xs. found_open search.groups c.restart.new.at lists 0 0 0 (record { domains = 0; marks = 0; ends = 0; settled = 0; plan = 0 }) xs bs' (restarting (state_of p ws bs)) y.searched (state xs) words (omega arith);
-      continues = λ book law. restart_continues lists book law (state_of p ws bs) (recall search lists ws bs) (restart_stands (recall search lists ws bs) p.closings p.restarts c.in_default.ensures) c.in_default.ensures;
+      continues = λ book law. restart_continues lists book law (state_of p ws bs) (recall search lists ws bs) (restart_stands (recall search lists ws bs) p.counts.closings p.counts.restarts c.in_default.ensures) c.in_default.ensures;
     }

@@ -1,12 +1,13 @@
-use Rattle.search.specs.Sittings.{lent}
+use Rattle.search.specs.Regions.{SameRegions}
+use Rattle.search.specs.Sittings.{lent_in}
 use Rattle.search.proofs.Along.{Along}
 use Rattle.search.proofs.calls.sitting.Given as goal
 
 abbrev pub invariant-moves : goal.invariant-moves
 invariant-moves g l =
     Along g.O.Order.meaning g.P.RestartPolicy.meaning g.O.Order.held g.P.RestartPolicy.held (g.B.RuleBook.meaning l.book) l.lists l.allowance l.initial.at
-    (lent l.initial.domains l.initial.branch l.initial.marks l.initial.ends l.initial.settled l.initial.plan l.initial.base l.initial.order l.initial.policy)
-    l.left l.decided l.at (lent l.domains l.branch l.marks l.ends l.settled l.plan l.base l.order l.policy)
+    (lent_in l.initial.regions l.initial.order l.initial.policy) l.left l.last l.at (lent_in l.regions l.order l.policy)
+    × SameRegions l.initial.regions l.regions
 
 abbrev pub decreases-moves : goal.decreases-moves
 decreases-moves g l = l.left

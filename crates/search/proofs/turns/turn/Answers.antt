@@ -1,15 +1,13 @@
-use Rattle.std.proofs.Common.{◌≡◌, ℕ, ◌-◌, ◌*◌, ◌≤◌, length, take, drop, sym, refl, ap, ◌∙◌, subst, arith}
+use Rattle.std.proofs.Common.{◌*◌, ◌≤◌, length, take, sym, refl, ap, ◌∙◌, arith}
 use Rattle.std.proofs.lemmas.List.{length-take-le}
-use Rattle.branching.specs.Channels.{Open}
 use Rattle.model.specs.Words.{base_of, recorded}
 use Rattle.search.specs.Turns.{state_of}
-use Rattle.search.proofs.Turning.{dead_masks, live_masks, spare, turned_dead, turned_alive, turned_whole, fit_whole, fresh_from, length_branch_of, alive_at, not_decided, decided_state}
+use Rattle.search.proofs.Turning.{dead_masks, live_masks, spare, turned_dead, turned_alive, turned_whole, fit_whole, fresh_from, length_branch_of, not_decided, decided_state}
 use Rattle.search.proofs.States.{past_more}
-use Rattle.search.proofs.Fronts.{less_none, front_length}
 use Rattle.search.proofs.turns.turn.Goals as goal
 
-pub returns-then-not-refresh : goal.returns-then-not-refresh
-returns-then-not-refresh g c =
+pub returns-in-Err : goal.returns-in-Err
+returns-in-Err g c =
     let lists = c.args.lists.now in
     let m = g.B.RuleBook.meaning c.args.book.now in
     let law = g.B.RuleBook.lawful c.args.book.now in
@@ -17,9 +15,9 @@ returns-then-not-refresh g c =
     let pm = g.P.RestartPolicy.meaning in
     let p = c.args.at.now in
     let p' = c.turn_dead.new.at in
-    let ws = c.args.branch.now in
+    let ws = c.args.regions.now.branch.now in
     let ws' = c.turn_dead.new.branch in
-    let bs = c.args.base.now in
+    let bs = c.args.regions.now.base.now in
     let s = state_of p ws bs in
     let s' = state_of p' ws' bs in
     let h = g.O.Order.held c.args.order.now in
@@ -27,12 +25,14 @@ returns-then-not-refresh g c =
     let q = g.P.RestartPolicy.held c.args.policy.now in
     let f = c.requires.fit in
     let d = c.turn_dead.ensures in
-    let masks = take (length lists) c.refresh.new.domains in
-    let t = turned_dead lists m om pm (length bs) c.args.left masks h h' q q s s' c.turn_dead.result (d.turn bs) (dead_masks lists m law s (c.if-not-refresh.ensures.dead refl)) refl in
+    let masks = take (length lists) c.refresh-remains.new.domains in
+    let t = turned_dead lists m om pm (length bs) c.args.left masks h h' q q s s' c.turn_dead.result (d.turn bs) (dead_masks lists m law s (c.in-Err.ensures.dead)) refl in
     let w = turned_whole lists m om pm (length bs) c.args.left masks h h' q q s s' g.met.O.Order.lawful g.met.P.RestartPolicy.lawful c.turn_dead.result t (fit_whole lists p ws bs f) in
     let used = d.used in
     let kept = c.turn_dead.auto.branch in
     record {
+      same = record { domains = refl; marks = refl; ends = refl; settled = refl; domains_size = c.refresh-remains.auto.domains; marks_size = c.refresh-remains.auto.marks; ends_size = c.refresh-remains.auto.ends; settled_size = c.refresh-remains.auto.settled; branch = refl; plan = refl; base = refl; branch_size = kept; plan_size = refl; base_size = refl };
+      plan = refl;
       turned = t;
       fit = record {
         some = f.some;
@@ -46,7 +46,7 @@ returns-then-not-refresh g c =
         words = ap (λ k. take k bs) used ∙ f.words ∙ ap (λ k. recorded (base_of (take k bs))) (sym used);
       };
       fresh = λ e. absurd (not_decided om pm (length bs) c.args.left h h' q q s s' c.turn_dead.result (d.turn bs) e);
-      beyond = c.refresh.ensures.beyond;
+      beyond = c.refresh-remains.ensures.beyond;
       kept = record {
         branch = past_more ws ws' p.branch_len (64 * length lists) f.branch_in d.past;
         grown = omega (arith, used);
@@ -59,20 +59,20 @@ turn_alive-requires g c =
     let lists = c.args.lists.now in
     let m = g.B.RuleBook.meaning c.args.book.now in
     let p = c.args.at.now in
-    let ws = c.args.branch.now in
-    let bs = c.args.base.now in
+    let ws = c.args.regions.now.branch.now in
+    let bs = c.args.regions.now.base.now in
     let f = c.requires.fit in
-    let ds = c.refresh.new.domains in
-    let inside : length lists ≤ length ds = omega (arith, c.refresh.auto.domains, c.requires.roomy.domains) in
-    let long : length (take (length lists - 0) ds) ≡ length lists = front_length ds (length lists) inside in
-    let lives = c.if-not-refresh.ensures.lives refl in
+    let ds = c.refresh-remains.new.domains in
+    let inside : length lists ≤ length ds = omega (arith, c.refresh-remains.auto.domains, c.requires.roomy.domains) in
+    let lives = c.in_default.ensures.lives in
     let leaves = live_masks lists m (state_of p ws bs) (take (length lists) ds) (length-take-le (length lists) ds inside) lives in
     record {
       few = omega (arith, f.few);
+      sized = inside;
       within = omega (arith, f.branch_in);
       room = omega (arith, f.branch_room);
       spare = λ o.
-          let k = spare lists m (state_of p ws bs) (take (length lists) ds) leaves (fit_whole lists p ws bs f) o.0 (subst (λ (n : ℕ). Open (take n ds) o.0) (less_none (length lists)) o.1) in
+          let k = spare lists m (state_of p ws bs) (take (length lists) ds) leaves (fit_whole lists p ws bs f) o.0 (o.1) in
           let n = length_branch_of ws p.branch_len in
           omega arith;
       used = f.base_in;
@@ -89,9 +89,9 @@ returns g c =
     let pm = g.P.RestartPolicy.meaning in
     let p = c.args.at.now in
     let p' = c.turn_alive.new.at in
-    let ws = c.args.branch.now in
+    let ws = c.args.regions.now.branch.now in
     let ws' = c.turn_alive.new.branch in
-    let bs = c.args.base.now in
+    let bs = c.args.regions.now.base.now in
     let bs' = c.turn_alive.new.base in
     let s = state_of p ws bs in
     let s' = state_of p' ws' bs' in
@@ -101,16 +101,17 @@ returns g c =
     let q' = g.P.RestartPolicy.held c.turn_alive.new.policy in
     let f = c.requires.fit in
     let d = c.turn_alive.ensures in
-    let ds = c.refresh.new.domains in
-    let inside : length lists ≤ length ds = omega (arith, c.refresh.auto.domains, c.requires.roomy.domains) in
-    let long : length (take (length lists - 0) ds) ≡ length lists = front_length ds (length lists) inside in
+    let ds = c.refresh-remains.new.domains in
+    let inside : length lists ≤ length ds = omega (arith, c.refresh-remains.auto.domains, c.requires.roomy.domains) in
     let masks = take (length lists) ds in
-    let lives = c.if-not-refresh.ensures.lives refl in
+    let lives = c.in_default.ensures.lives in
     let leaves = live_masks lists m s masks (length-take-le (length lists) ds inside) lives in
-    let a = alive_at om pm (length bs) c.args.left h h' q q' s s' c.turn_alive.result (take (length lists - 0) ds) masks (ap (λ k. take k ds) (less_none (length lists))) d.turn in
+    let a = d.turn in
     let t = turned_alive lists m om pm (length bs) c.args.left masks h h' q q' s s' c.turn_alive.result a leaves lives.alive in
     let w = turned_whole lists m om pm (length bs) c.args.left masks h h' q q' s s' g.met.O.Order.lawful g.met.P.RestartPolicy.lawful c.turn_alive.result t (fit_whole lists p ws bs f) in
     record {
+      same = record { domains = refl; marks = refl; ends = refl; settled = refl; domains_size = c.refresh-remains.auto.domains; marks_size = c.refresh-remains.auto.marks; ends_size = c.refresh-remains.auto.ends; settled_size = c.refresh-remains.auto.settled; branch = refl; plan = refl; base = refl; branch_size = c.turn_alive.auto.branch; plan_size = refl; base_size = c.turn_alive.auto.base };
+      plan = refl;
       turned = t;
       fit = record {
         some = f.some;
@@ -124,9 +125,9 @@ returns g c =
         words = d.words;
       };
       fresh = λ e. let k = decided_state om pm (length bs) c.args.left h h' q q' s s' c.turn_alive.result masks a e in fresh_from lists m p p' ws ws' bs bs' ds k.0 k.1 lives;
-      beyond = c.refresh.ensures.beyond;
+      beyond = c.refresh-remains.ensures.beyond;
       kept = record {
-        branch = ap (λ k. drop (64 * k) ws') (sym long) ∙ d.kept.branch ∙ ap (λ k. drop (64 * k) ws) long;
+        branch = d.kept.branch;
         grown = d.kept.grown;
         base = d.kept.base;
       };

@@ -1,10 +1,9 @@
-use Rattle.std.proofs.Common.{◌≡◌, ◌+◌, ◌*◌, ◌^◌, ◌<◌, ◌++◌, length, get_or, take, drop, sym, refl, ap, ◌∙◌, arith}
+use Rattle.std.proofs.Common.{◌≡◌, ◌+◌, ◌*◌, ◌++◌, length, take, drop, sym, refl, ap, ◌∙◌, arith}
 use Rattle.model.specs.Decisions.{reduced}
 use Rattle.model.specs.Words.{branch_of, base_of, recorded}
 use Rattle.search.specs.declared.held.Progress.{Progress}
 use Rattle.search.specs.Turns.{state_of, decided_at}
 use Rattle.search.proofs.States.{all_words, restarting_state, restarted_words, past_words, deciding_state, past_set}
-use Rattle.search.proofs.Choices.{group_open, channel_has, word_small}
 use Rattle.search.proofs.turns.turn_alive.Goals as goal
 
 pub restart-requires : goal.restart-requires
@@ -55,15 +54,7 @@ returns g c =
     let p = c.args.at.now in
     let ws = c.args.branch.now in
     let bs = c.args.base.now in
-    let ms = c.args.domains.now in
     let d = c.decide.ensures.decides in
-    let om = g.O.Order.meaning in
-    let law = g.met.O.Order.lawful in
-    let h = g.O.Order.held c.args.order.now in
-    let o = group_open om law h ms d.group d.grouped in
-    let k = channel_has om law (om.grouped h ms) ms d.group d.channel d.channeled in
-    let fits : get_or ms d.group 0 < 2 ^ 64 = omega (arith, c.type_inv.domains d.group) in
-    let small = word_small ms d.group d.channel c.requires.few o k fits in
     let wide = c.if-not-some_wide.ensures.yes refl in
     let spare = c.requires.spare wide in
     let used : c.decide.new.at.base_used ≡ p.base_used = ap (λ (q : Progress). q.base_used) d.numbers in
@@ -78,7 +69,7 @@ returns g c =
           channel = d.channel;
           grouped = d.grouped;
           channeled = d.channeled;
-          state = ap (λ (q : Progress). state_of q c.decide.new.branch bs) d.numbers ∙ ap (λ xs. state_of (decided_at p) xs bs) d.words ∙ deciding_state p ws bs (64 * d.group + d.channel) (omega arith) small;
+          state = ap (λ (q : Progress). state_of q c.decide.new.branch bs) d.numbers ∙ ap (λ xs. state_of (decided_at p) xs bs) d.words ∙ deciding_state p ws bs (64 * d.group + d.channel) (omega arith) d.small;
           order = d.after;
           policy = refl;
         },
@@ -87,7 +78,7 @@ returns g c =
       used = omega arith;
       words = ap (λ k. take k bs) used ∙ c.requires.words ∙ ap (λ k. recorded (base_of (take k bs))) (sym used);
       kept = record {
-        branch = past_set (64 * length ms) p.branch_len _ ws c.decide.new.branch spare d.words;
+        branch = past_set (64 * c.args.groups) p.branch_len _ ws c.decide.new.branch spare d.words;
         grown = omega arith;
         base = refl;
       };

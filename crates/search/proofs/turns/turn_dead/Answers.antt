@@ -1,12 +1,31 @@
 use Rattle.std.proofs.Common.{◌≡◌, sym, refl, ap, ◌∙◌, arith}
+use Rattle.model.specs.Decisions.{takens}
 use Rattle.search.specs.declared.held.Progress.{Progress}
 use Rattle.search.specs.Turns.{state_of, closed_at}
+use Rattle.search.proofs.Fronts.{whole_branch, front_last}
 use Rattle.search.proofs.States.{closing_state, blamed_last, last_some, past_set}
 use Rattle.search.proofs.turns.turn_dead.Goals as goal
 
+pub returns-in-None : goal.returns-in-None
+returns-in-None g c = record {
+  turn = λ base. (ap takens (sym (whole_branch c.args.branch.now c.args.at.now.branch_len c.requires.within)) ∙ c.in-None.ensures, refl, refl);
+  used = refl;
+  shorter = omega arith;
+  past = refl;
+}
+
+pub close-group-requires : goal.close-group-requires
+close-group-requires g c =
+    let k = c.requires.counted in
+    record {
+      last = front_last c.args.branch.now c.args.at.now.branch_len c.requires.within c.in-Some.last c.in-Some.ensures;
+      within = c.requires.within;
+      counted = record { moves = omega arith; closings = k.closings; restarts = k.restarts; since = k.since };
+    }
+
 pub returns-then-left-eq0 : goal.returns-then-left-eq0
 returns-then-left-eq0 g c =
-    let l = c.in-Some.ensures in
+    let l = front_last c.args.branch.now c.args.at.now.branch_len c.requires.within c.in-Some.last c.in-Some.ensures in
     record {
       turn = λ base. (c.if-left-eq0.true, last_some c.args.branch.now c.args.at.now.branch_len c.in-Some.last l, refl, refl);
       used = refl;
@@ -16,7 +35,7 @@ returns-then-left-eq0 g c =
 
 pub returns-else-left-eq0 : goal.returns-else-left-eq0
 returns-else-left-eq0 g c =
-    let l = c.in-Some.ensures in
+    let l = front_last c.args.branch.now c.args.at.now.branch_len c.requires.within c.in-Some.last c.in-Some.ensures in
     let p = c.args.at.now in
     let ws = c.args.branch.now in
     let e = c.close-group.ensures in
