@@ -3,11 +3,11 @@
 #![tactic(auto)]
 
 use branching::{Order, RestartPolicy};
-use propagation::records::{Assignment, RuleEnd};
 use rules::book::RuleBook;
 use rules::refusal::Refusal;
 use search::calls::{open, sitting};
 use search::held::{OpenSearch, Sat};
+use search::regions::Regions;
 
 // Opens a search.
 pub fn opened<B: RuleBook>(lists: &[u64], book: &B) -> Result<OpenSearch, Refusal> {
@@ -22,23 +22,10 @@ pub fn sit_twice<B: RuleBook, O: Order, P: RestartPolicy>(
     order: &mut O,
     policy: &mut P,
     allowance: u32,
-    domains: &mut [u64],
-    branch: &mut [u32],
-    marks: &mut [u32],
-    ends: &mut [RuleEnd],
-    settled: &mut [Assignment],
-    plan: &mut [u8],
-    base: &mut [u32],
+    regions: &mut Regions<'_>,
 ) -> Result<Sat, (Refusal, OpenSearch)> {
-    let first = sitting(
-        search, lists, book, order, policy, allowance, domains, branch, marks, ends, settled, plan,
-        base,
-    )?;
-    match first {
-        Sat::Open(next) => sitting(
-            next, lists, book, order, policy, allowance, domains, branch, marks, ends, settled,
-            plan, base,
-        ),
+    match sitting(search, lists, book, order, policy, allowance, regions)? {
+        Sat::Open(next) => sitting(next, lists, book, order, policy, allowance, regions),
         Sat::Plan(done) => Ok(Sat::Plan(done)),
         Sat::None(done) => Ok(Sat::None(done)),
     }
@@ -52,20 +39,11 @@ pub fn sit_once<B: RuleBook, O: Order, P: RestartPolicy>(
     order: &mut O,
     policy: &mut P,
     allowance: u32,
-    domains: &mut [u64],
-    branch: &mut [u32],
-    marks: &mut [u32],
-    ends: &mut [RuleEnd],
-    settled: &mut [Assignment],
-    plan: &mut [u8],
-    base: &mut [u32],
+    regions: &mut Regions<'_>,
 ) -> (
     Result<Sat, (Refusal, OpenSearch)>,
     Option<Result<Sat, (Refusal, OpenSearch)>>,
 ) {
-    let only = sitting(
-        search, lists, book, order, policy, allowance, domains, branch, marks, ends, settled, plan,
-        base,
-    );
+    let only = sitting(search, lists, book, order, policy, allowance, regions);
     (only, None)
 }

@@ -48,7 +48,7 @@ reached bytes (SatOpen _) = unsettled
 abbrev pub counted : Sat → Counts
 counted (SatPlan d) = d.counts
 counted (SatNone d) = d.counts
-counted (SatOpen t) = record { moves = t.at.moves; closings = t.at.closings; restarts = t.at.restarts }
+counted (SatOpen t) = t.at.counts
 
 -- The verdict of an answer.
 abbrev pub told_by : Verdict → Reached

@@ -1,5 +1,6 @@
 // The regions that are lent to the calls on a search, the sittings in them, and what these leave of an answer.
 ghost use Rattle.std.specs.Prelude.{◌≡◌, ◌+◌, IfOk, IfErr, OnErr, vec_items, vec_len};
+ghost use Rattle.search.specs.Sittings.{lent, Answers};
 ghost use Rattle.planner.specs.Answers.{Shaped, Roomy, Kept, Unmoved, GoesOn, reached, counted, told_by};
 
 use crate::answer::{Answer, Verdict};
@@ -11,6 +12,7 @@ use rules::book::RuleBook;
 use rules::refusal::Refusal;
 use search::calls::sitting;
 use search::held::{OpenSearch, Sat};
+use search::regions::Regions;
 use std::alloc::Global;
 
 // All that is lent: what remains, the branch, the plan and the base; and what a call works in and may leave as it likes.
@@ -23,6 +25,36 @@ pub struct Memory {
     pub marks: Vec<u32>,
     pub ends: Vec<RuleEnd>,
     pub settled: Vec<Assignment>,
+}
+
+// One sitting in these regions, side by side.
+fn sit_in<'r, B: RuleBook, O: Order, P: RestartPolicy>(
+    search: OpenSearch,
+    lists: &[u64],
+    book: &B,
+    order: &mut O,
+    policy: &mut P,
+    allowance: u32,
+    domains: &'r mut [u64],
+    marks: &'r mut [u32],
+    ends: &'r mut [RuleEnd],
+    settled: &'r mut [Assignment],
+    branch: &'r mut [u32],
+    plan: &'r mut [u8],
+    base: &'r mut [u32],
+) -> Result<Sat, (Refusal, OpenSearch)>
+    ensures { Answers O.Order.meaning P.RestartPolicy.meaning O.Order.held P.RestartPolicy.held (B.RuleBook.meaning book.now) «search» lists.now allowance (lent domains.old branch.old marks.old ends.old settled.old plan.old base.old order.old policy.old) (lent domains.new branch.new marks.new ends.new settled.new plan.new base.new order.new policy.new) result }
+{
+    let mut regions = Regions {
+        domains,
+        marks,
+        ends,
+        settled,
+        branch,
+        plan,
+        base,
+    };
+    sitting(search, lists, book, order, policy, allowance, &mut regions)
 }
 
 impl Memory {
@@ -67,7 +99,7 @@ impl Memory {
         ensures handed_back { IfErr result (λ e. e.1 ≡ «search») }
         ensures unmoved { OnErr result (Unmoved self.old self.new) }
     {
-        sitting(
+        sit_in(
             search,
             lists,
             book,
@@ -75,10 +107,10 @@ impl Memory {
             policy,
             allowance,
             &mut self.domains,
-            &mut self.branch,
             &mut self.marks,
             &mut self.ends,
             &mut self.settled,
+            &mut self.branch,
             &mut self.plan,
             &mut self.base,
         )

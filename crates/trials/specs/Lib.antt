@@ -4,3 +4,4 @@ pub mod Tops
 pub mod AlternatingLemmas
 pub mod Kept
 pub mod Bytes
+pub mod Tallies

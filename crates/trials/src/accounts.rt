@@ -1,5 +1,6 @@
 // Jobs whose accounts are known by hand, with what the planner makes of them.
-ghost use Rattle.std.specs.Prelude.{◌≡◌, length, take};
+ghost use Rattle.std.specs.Prelude.{◌≡◌, [], length, take, IfOk};
+ghost use Rattle.trials.specs.Bytes.{job_bytes};
 
 use crate::alternating::Alternating;
 use crate::highest::HighestFirst;
@@ -18,7 +19,9 @@ fn gap(first: u16, second: u16, gap: u8) -> Gap
 }
 
 // The bytes of a job with these lists and gaps, and no tables.
-fn bytes_of(heap: Global, lists: &[u64], gaps: &[Gap]) -> Result<Vec<u8>, AllocError> {
+fn bytes_of(heap: Global, lists: &[u64], gaps: &[Gap]) -> Result<Vec<u8>, AllocError>
+    ensures { IfOk result (λ bytes. bytes.items ≡ job_bytes lists.now gaps.now []) }
+{
     let job = Job {
         lists: lists.to_vec(heap)?,
         gaps: gaps.to_vec(heap)?,

@@ -1,5 +1,7 @@
 // How often each verdict came, and how often it was not the one that trying every choice gives.
-ghost use Rattle.std.specs.Prelude.{◌≡◌, ◌+◌, min};
+ghost use Rattle.std.specs.Prelude.{◌≡◌};
+ghost use Rattle.trials.specs.Kept.{plan};
+ghost use Rattle.trials.specs.Tallies.{one_more, noted};
 
 use crate::job::Job;
 use planner::answer::{Answer, Verdict};
@@ -16,14 +18,16 @@ pub struct Tally {
 
 // Counts one more, as far as the count can go.
 pub fn count_one(count: &mut u32)
-    ensures { count.new ≡ min (count.old + 1) 4294967295 }
+    ensures { count.new ≡ one_more count.old }
 {
     *count = count.saturating_add(1);
 }
 
 impl Tally {
     // Counts the answer to a job of which it is known whether it has a plan.
-    pub fn note(&mut self, job: &Job, solvable: bool, answer: Result<Answer, PlanError>) {
+    pub fn note(&mut self, job: &Job, solvable: bool, answer: Result<Answer, PlanError>)
+        ensures { self.new ≡ noted self.old solvable (λ channels. plan channels job.now.lists.items job.now.gaps.items job.now.tables.items) answer }
+    {
         match answer.map(|answer| answer.verdict) {
             Ok(Verdict::Plan(channels)) if solvable && job.is_plan(&channels) => count_one(
                 &mut self.plans,
