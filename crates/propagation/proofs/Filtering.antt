@@ -1,7 +1,7 @@
 -- From what the work gives to what remains. Assumes nothing.
-use Rattle.std.proofs.Common.{◌≡◌, ℕ, ◌/◌, ◌%◌, ◌^◌, ◌<◌, Bool, true, false, List, [], length, get_or, sym, ap, ◌∙◌, subst, inl, inr, arith}
+use Rattle.std.proofs.Common.{◌≡◌, ℕ, ◌^◌, ◌<◌, Bool, true, false, List, length, get_or, subst, inl, inr, arith}
 use Rattle.std.specs.Prelude.{Result, Ok, Err, OnOk, OnErr}
-use Rattle.std.proofs.lemmas.Bool.{both_ways, cases_lt, false≢true}
+use Rattle.std.proofs.lemmas.Bool.{both_ways, cases_lt}
 use Rattle.std.proofs.lemmas.List.{get_or_past}
 use Rattle.rules.specs.Meanings.{Meaning, Lawful}
 use Rattle.rules.specs.Channels.{has}
@@ -12,29 +12,14 @@ use Rattle.model.specs.Remains.{Family, family, Obeys, Meets, Alive}
 use Rattle.model.proofs.Tests.{refuted}
 use Rattle.model.proofs.Largest.{filtered, filtered_remains}
 use Rattle.propagation.specs.declared.records.RuleEnd.{RuleEnd}
-use Rattle.propagation.specs.declared.records.Assignment.{Assignment}
-use Rattle.propagation.specs.Waits.{waits, at_end, Line}
+use Rattle.propagation.specs.Waits.{waits, at_end}
 use Rattle.propagation.specs.Supports.{Inside, Supported}
-use Rattle.propagation.specs.Settling.{Emptied, Settled}
+use Rattle.propagation.specs.Settling.{Emptied}
 use Rattle.propagation.specs.Calms.{Agrees, Calm}
 use Rattle.propagation.specs.Filtered.{Lives, Doomed, Dies}
 use Rattle.propagation.proofs.Digits.{has_none, has_below}
 use Rattle.propagation.proofs.Starting.{branch_all, all_branch}
 use Rattle.propagation.proofs.Revising.{none_supported}
-
--- an empty line with no marks
-pub line_none : (rules : ℕ) (q : List RuleEnd) (marks : List ℕ) → q ≡ [] → ((i : ℕ) → i < length marks → get_or marks i 0 ≡ 0) → Line rules q marks
-line_none rules q marks e z = subst (λ (x : List RuleEnd). Line rules x marks) (sym e) (record {
-  same = λ i. sym (ap (λ (x : ℕ). has x (i % 32)) (all_zero (i / 32)) ∙ has_none (i % 32));
-  once = tt;
-  below = λ i h. absurd (false≢true h);
-})
-  where
-    all_zero : (i : ℕ) → get_or marks i 0 ≡ 0
-    all_zero i = elim (cases_lt i (length marks)) [ inl l ↦ z i l | inr l ↦ get_or_past marks i 0 l ]
-
-pub settled_none : (ms : List ℕ) (s : List Assignment) → s ≡ [] → Settled ms s
-settled_none ms s e = subst (λ (x : List Assignment). Settled ms x) (sym e) (record { alone = tt; below = λ g h. absurd (false≢true h); narrow = λ g h. absurd (false≢true h) })
 
 -- with all ends in line nothing is claimed
 pub calm_all : (m : Meaning) → Lawful m → (ms : List ℕ) (q : List RuleEnd) → ((i : ℕ) (s : Bool) → i < m.count → waits q (at_end i s) ≡ true) → Calm m ms q

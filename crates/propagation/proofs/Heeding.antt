@@ -1,20 +1,16 @@
 -- Nogoods heeded. Assumes nothing.
 use Rattle.std.specs.Bool.{then_some}
 use Rattle.std.specs.Prelude.{Bool, Decides, MatchOption, slice_get, [], ◌∷◌}
-use Rattle.std.proofs.Common.{◌≡◌, ℕ, ◌/◌, ◌%◌, ◌^◌, ◌<◌, true, false, ◌≢◌, ◌⊎◌, List, length, get_or, set, sym, refl, ap, ◌∙◌, subst, inl, inr, arith}
+use Rattle.std.proofs.Common.{◌≡◌, ℕ, ◌/◌, ◌%◌, ◌^◌, ◌<◌, true, false, ◌≢◌, List, length, get_or, sym, refl, subst, inl, inr, arith}
 use Rattle.std.specs.List.{AllByRecursion}
 use Rattle.std.proofs.lemmas.Bool.{cases_eq, both_ways, false≢true}
-use Rattle.std.proofs.lemmas.List.{length-set, get_or-set_same}
 use Rattle.std.proofs.ByRecursion.{All-get_or, All-from_get_or, All-weaker}
 use Rattle.rules.specs.Channels.{has}
 use Rattle.model.specs.Masks.{grp}
 use Rattle.model.specs.Remains.{Family, family, Only, Gone, Heeds}
-use Rattle.model.proofs.Tests.{refuted}
 use Rattle.propagation.specs.Supports.{Inside}
-use Rattle.propagation.specs.Settling.{Emptied}
 use Rattle.propagation.specs.Bases.{Forced}
 use Rattle.propagation.proofs.Digits.{Cut, has_none, has_some, cut_stays, cut_inside, cut_other}
-use Rattle.propagation.proofs.Steps.{at_same, at_other}
 
 -- a set without the channel is empty where the channel is the only one
 pub only_if : (ms : List ℕ) (v r : ℕ) → Cut (get_or ms (v / 64) 0) (v % 64) r → r ≡ 0 → Only (family ms) v
@@ -27,28 +23,6 @@ pub if_only : (ms : List ℕ) (v r : ℕ) → r < 2 ^ 64 → Cut (get_or ms (v /
 if_only ms v r q cut o n =
     let t = has_some r q n in
     cut_other (get_or ms (v / 64) 0) (v % 64) r cut t.0 t.1 (o t.0 (cut_inside (get_or ms (v / 64) 0) (v % 64) r cut t.0 t.1))
-
-module _ (ms ms' : List ℕ) (v r g : ℕ) (eg : g ≡ v / 64) (here : v / 64 < length ms) (cut : Cut (get_or ms (v / 64) 0) (v % 64) r) (left' : ms' ≡ set ms g r) where
-  left : ms' ≡ set ms (v / 64) r
-  left = left' ∙ ap (λ (x : ℕ). set ms x r) eg
-
-  pub remove_gone : Gone (family ms') v
-  remove_gone = refuted (family ms' (v / 64) (v % 64)) (λ h.
-      let h' : family (set ms (v / 64) r) (v / 64) (v % 64) ≡ true = subst (λ (x : List ℕ). family x (v / 64) (v % 64) ≡ true) left h in
-      cut_other (get_or ms (v / 64) 0) (v % 64) r cut (v % 64) (sym (at_same ms (v / 64) r here (v % 64)) ∙ h') refl)
-
-  pub remove_within : (k : Family) → Gone k v → Inside k (family ms) → Inside k (family ms')
-  remove_within k gone ins x c h = subst (λ (y : List ℕ). family y x c ≡ true) (sym left) (go (cases_eq x (v / 64)))
-    where
-      go : (x ≡ v / 64) ⊎ (x ≡ v / 64 → ⊥) → family (set ms (v / 64) r) x c ≡ true
-      go (inr n) = at_other ms (v / 64) r here x c n ∙ ins x c h
-      go (inl q) =
-          let h' : k (v / 64) c ≡ true = subst (λ (y : ℕ). k y c ≡ true) q h in
-          let n : c ≡ v % 64 → ⊥ = λ z. both_ways (k (v / 64) c) (subst (λ (y : ℕ). k (v / 64) y ≡ false) (sym z) gone) h' in
-          subst (λ (y : ℕ). family (set ms (v / 64) r) y c ≡ true) (sym q) (at_same ms (v / 64) r here c ∙ cut_stays (get_or ms (v / 64) 0) (v % 64) r cut c (ins (v / 64) c h') n)
-
-  pub remove_dead : r ≡ 0 → Emptied ms'
-  remove_dead z = (v / 64, omega (arith, ap length left, length-set ms (v / 64) r, here), ap (λ (y : List ℕ). get_or y (v / 64) 0) left ∙ get_or-set_same ms (v / 64) r 0 here ∙ z)
 
 -- of a family within another
 pub only_inside : (k l : Family) (v : ℕ) → Inside k l → Only l v → Only k v

@@ -1,9 +1,8 @@
 -- What a write or a read at a place of the ring does to the list that waits.
-use Rattle.std.proofs.Common.{◌≡◌, ℕ, suc, ◌+◌, ◌-◌, ◌<◌, ◌≤◌, ◌⊎◌, List, [], ◌∷◌, ◌++◌, length, get_or, take, drop, set, Ok, Err, Result, sym, ap, ◌∙◌, inl, inr, arith, MatchResult}
+use Rattle.std.proofs.Common.{◌≡◌, ℕ, suc, ◌+◌, ◌-◌, ◌<◌, ◌≤◌, ◌⊎◌, List, [], ◌∷◌, ◌++◌, length, get_or, take, drop, set, min, Ok, Err, Result, sym, ap, ◌∙◌, inl, inr, arith, MatchResult}
 use lib.Seq.{take-set-lt}
 use Rattle.std.proofs.lemmas.List.{append-nil, append_assoc, length-take, length-drop, length-append, take_all, drop_all, take-append-le, take-set-le, take_more, take_more_set, drop-set-lt, drop-set-add, drop_more, set-append_left, set-append_right, nil_from_length}
-use Rattle.propagation.specs.declared.ring.Ring.{Ring}
-use Rattle.propagation.specs.Waiting.{waiting, queued, size}
+use Rattle.propagation.specs.Waiting.{waiting}
 
 -- the places from h on, and then those before
 abbrev turned : {X : Type 0} → List X → ℕ → List X
@@ -48,20 +47,11 @@ push_line ps h s l at x hl st nx =
     ap (take (l + 1)) (set_turned ps s l at x hs hl nx) ∙ take_more_set (turned ps s) l x k
     ∙ ap (λ r. take l r ++ (x ∷ [])) (sym (start_turned ps h s st))
 
--- the same where the head is known to be within
-pub push_at : {X : Type 0} (ps : List X) (s l at : ℕ) (x : X) → l < length ps → s ≤ length ps → Next (length ps) s l at → waiting (set ps at x) s (l + 1) ≡ waiting ps s l ++ (x ∷ [])
-push_at ps s l at x hl hs nx =
-    let k : l < length (turned ps s) = rw turned_length hl in
-    ap (take (l + 1)) (set_turned ps s l at x hs hl nx) ∙ take_more_set (turned ps s) l x k
-
 pub full_line : {X : Type 0} (ps : List X) (h l : ℕ) → length ps ≤ l → length (waiting ps h l) ≡ length ps
 full_line ps h l a = simp (length-take, length-append, length-drop) (omega arith)
 
 pub part_line : {X : Type 0} (ps : List X) (h l : ℕ) → l < length ps → length (waiting ps h l) ≡ l
 part_line ps h l a = simp (length-take, length-append, length-drop) (omega arith)
-
-pub line_fits : {X : Type 0} (r : Ring X) → length (queued r) ≤ size r
-line_fits r = simp (length-take, length-append, length-drop) (omega arith)
 
 pub empty_line : {X : Type 0} (ps : List X) (h l : ℕ) → (l ≡ 0) ⊎ (length ps ≡ 0) → waiting ps h l ≡ []
 empty_line ps h l (inl e) = rw e
@@ -94,3 +84,6 @@ pop_line ps h s l k d hl st hn ct =
 pub either_way : {X E : Type 0} {G : Type 0} (r : Result X E) {P : X → Type 0} {Q : E → Type 0} → MatchResult r P Q → ((x : X) → P x → G) → ((e : E) → Q e → G) → G
 either_way (Ok x) h f k = f x h
 either_way (Err e) h f k = k e h
+
+pub line_length : {X : Type 0} (ps : List X) (h l : ℕ) → length (waiting ps h l) ≡ min l (length ps)
+line_length ps h l = simp (length-take, length-append, length-drop) (omega arith)

@@ -1,5 +1,5 @@
 -- One turn of the work. Assumes nothing.
-use Rattle.std.proofs.Common.{◌≡◌, ℕ, ◌+◌, ◌*◌, ◌<◌, ◌≤◌, Bool, true, false, ◌≢◌, ◌⊎◌, List, [], ◌∷◌, length, Some, None, sum, sym, refl, ap, ◌∙◌, subst, inl, inr, mul-le-mul_right, add-mul, one-mul, arith}
+use Rattle.std.proofs.Common.{◌≡◌, ℕ, ◌+◌, ◌*◌, ◌<◌, ◌≤◌, Bool, true, false, ◌≢◌, ◌⊎◌, List, [], ◌∷◌, length, Some, sum, sym, refl, ap, ◌∙◌, subst, inl, inr, mul-le-mul_right, add-mul, one-mul, arith}
 use Rattle.std.specs.List.{AllByRecursion}
 use Rattle.std.proofs.ByRecursion.{All-weaker}
 use Rattle.std.proofs.lemmas.Bool.{cases_eq, or_right, or_from, ne_eqb}
@@ -94,9 +94,6 @@ spare ms p s f v e ev base a = All-weaker (Good ms p) (λ n. Spared (Some v) n �
     one : (n : List ℕ) → Good ms p n → Spared (Some v) n → Good ms s n
     one n good sp quiet = good (subst (λ (x : List Assignment). AllByRecursion (λ w. noted x w ≡ false) n) (sym e)
         (all_join (λ x. x ≢ v) (λ w. noted s w ≡ false) (λ w. noted (f ∷ s) w ≡ false) (λ x d h. or_from _ _ (ne_eqb (64 * f.group + f.channel) x (λ q. d (sym (ev ∙ q)))) h) n sp quiet))
-
-pub spare_none : (ms : List ℕ) (s : List Assignment) (base : List (List ℕ)) → AllByRecursion (λ n. Spared None n → Good ms s n) base
-spare_none ms s base = of_all (λ n. Spared None n → Good ms s n) (λ n h. absurd h) base
 
 -- a book and a base by other names
 pub agrees_same : (m m' : Meaning) (b b' : List (List ℕ)) (k : Family) → m' ≡ m → b' ≡ b → Agrees m b k → Agrees m' b' k

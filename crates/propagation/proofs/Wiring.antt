@@ -132,10 +132,6 @@ chained_wired m law k wires size groups rules e c = record {
     below : (g n : ℕ) → Facing m g n → n < k
     below g n f = let z = facing_below m law g n f in omega arith
 
--- the ends of one rule
-pub facing_ends : (m : Meaning) (i : ℕ) (x : ℕ × ℕ) → m.ends i ≡ Some x → Facing m x.1 (2 * i) × Facing m x.0 (2 * i + 1)
-facing_ends m i x e = ((i, false, x, omega arith, e, refl), (i, true, x, omega arith, e, refl))
-
 pub facing_none : (m : Meaning) (i : ℕ) (s : Bool) → m.ends i ≡ None → (g : ℕ) → Facing m g (at_end i s) → ⊥
 facing_none m i s n g (j, t, x, p, e, f) =
     let z = same_end i j s t p in

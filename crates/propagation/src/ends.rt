@@ -7,21 +7,21 @@ use super::records::RuleEnd;
 use super::ring::Ring;
 
 // The number of a rule end.
-fn number(e: RuleEnd) -> u32
+pub fn number(e: RuleEnd) -> u32
     requires { e.rule < 4096 }
     ensures { result ≡ place e }
 {
     2 * e.rule + u32::from(e.second)
 }
 
-fn is_marked(marks: &[u32], e: u32) -> bool
+pub fn is_marked(marks: &[u32], e: u32) -> bool
     requires { (e < 8192) × (length marks.now ≡ 256) }
     ensures { result ≡ marked marks.now e }
 {
     (marks[(e / 32) as usize] >> (e % 32)) % 2 == 1
 }
 
-fn mark(marks: &mut [u32], e: u32)
+pub fn mark(marks: &mut [u32], e: u32)
     requires within { e < 8192 }
     requires words { length marks.old ≡ 256 }
     requires state { marked marks.old e ≡ false }
@@ -30,7 +30,7 @@ fn mark(marks: &mut [u32], e: u32)
     marks[(e / 32) as usize] += 1 << (e % 32);
 }
 
-fn unmark(marks: &mut [u32], e: u32)
+pub fn unmark(marks: &mut [u32], e: u32)
     requires within { e < 8192 }
     requires words { length marks.old ≡ 256 }
     requires state { marked marks.old e ≡ true }

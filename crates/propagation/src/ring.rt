@@ -69,8 +69,7 @@ impl<'a, T: Copy> Ring<'a, T> {
     pub fn len(&self) -> usize
         ensures { result ≡ length (queued self.now) }
     {
-        let n = self.places.len();
-        if self.len < n { self.len } else { n }
+        self.len.min(self.places.len())
     }
 
     // Takes the oldest.
@@ -84,10 +83,9 @@ impl<'a, T: Copy> Ring<'a, T> {
             return None;
         }
         let start = if self.head < n { self.head } else { 0 };
-        let count = if self.len < n { self.len } else { n };
         let x = self.places[start];
         self.head = start + 1;
-        self.len = count - 1;
+        self.len = self.len.min(n) - 1;
         Some(x)
     }
 }

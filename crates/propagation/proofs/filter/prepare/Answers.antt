@@ -1,8 +1,6 @@
-use Rattle.std.proofs.Common.{List, ℕ, get_or, sym, subst, arith}
-use Rattle.std.proofs.lemmas.Bool.{both_ways}
+use Rattle.std.proofs.Common.{List, ℕ, sym, subst}
 use Rattle.model.specs.Remains.{family}
 use Rattle.propagation.specs.Supports.{Inside}
-use Rattle.propagation.proofs.Digits.{has_some}
 use Rattle.propagation.proofs.filter.prepare.Goals as goal
 
 pub returns-then-some_empty-clause-within : goal.returns-then-some_empty-clause-within

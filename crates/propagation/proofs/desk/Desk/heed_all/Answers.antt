@@ -1,4 +1,4 @@
-use Rattle.std.proofs.Common.{◌≡◌, ℕ, ◌/◌, ◌<◌, List, [], ◌∷◌, ◌++◌, length, min, Bor, refl, sym, ap, ◌∙◌, subst, arith}
+use Rattle.std.proofs.Common.{◌≡◌, ℕ, List, [], ◌∷◌, ◌++◌, length, min, Bor, sym, ap, ◌∙◌, subst}
 use Rattle.std.proofs.ByRecursion.{All-weaker, All-push}
 use Rattle.rules.specs.Meanings.{Meaning}
 use Rattle.propagation.specs.Waiting.{queued}

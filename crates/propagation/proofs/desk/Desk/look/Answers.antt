@@ -1,4 +1,4 @@
-use Rattle.std.proofs.Common.{◌≡◌, ℕ, ◌/◌, ◌<◌, length, get_or, sym, subst, arith}
+use Rattle.std.proofs.Common.{ℕ, ◌/◌, ◌<◌, length, get_or, sym, subst, arith}
 use Rattle.std.proofs.ByRecursion.{All-get_or}
 use Rattle.std.proofs.lemmas.Result.{on_ok_weaker}
 use Rattle.model.specs.Remains.{family, Gone}

@@ -1,10 +1,10 @@
-use Rattle.std.proofs.Common.{◌≡◌, ℕ, ◌^◌, ◌<◌, List, length, get_or, set, sym, refl, ap, ◌∙◌, subst, inr, arith}
-use Rattle.std.proofs.lemmas.List.{length-set, set-get_or}
+use Rattle.std.proofs.Common.{◌≡◌, ◌^◌, ◌<◌, length, get_or, set, sym, ap, ◌∙◌, subst, inr, arith}
+use Rattle.std.proofs.lemmas.List.{length-set}
 use Rattle.propagation.specs.declared.desk.Desk.{Desk}
 use Rattle.propagation.specs.Waiting.{queued, size}
 use Rattle.propagation.specs.Settling.{assignment, Noting}
 use Rattle.propagation.specs.Desks.{Held, Step}
-use Rattle.propagation.proofs.Steps.{not_standing, shrink_settled, shrink_assignments, shrink_ends, shrink_falls, set_inside, set_alive, step_same}
+use Rattle.propagation.proofs.Steps.{not_standing, shrink_settled, shrink_assignments, shrink_ends, shrink_falls, set_inside, set_alive}
 use Rattle.propagation.proofs.Groups.{stands_room}
 use Rattle.propagation.proofs.Deciding.{within_le}
 use Rattle.propagation.proofs.Digits.{has_some}
