@@ -25,7 +25,7 @@ use rules::refusal::Refusal;
 fn work_fits(regions: &Regions<'_>, groups: u16, rules: u32) -> bool
     ensures { result ≡ ((nat_le groups (length regions.now.domains.now) && nat_le 256 (length regions.now.marks.now)) && ((nat_le (2 * rules) (length regions.now.ends.now) && nat_le groups (length regions.now.settled.now)) && nat_le groups (length regions.now.plan.now))) }
 {
-    let n = groups as usize;
+    let n = usize::from(groups);
     (n <= regions.domains.len() && 256 <= regions.marks.len())
         && ((2 * rules as usize <= regions.ends.len() && n <= regions.settled.len())
             && n <= regions.plan.len())
@@ -51,7 +51,7 @@ fn in_range(lists: &[u64]) -> bool
 fn book_agrees<B: RuleBook>(lists: &[u64], book: &B) -> bool
     ensures { result ≡ ((B.meaning book.now).groups == length lists.now && nat_le (B.meaning book.now).count 4096) }
 {
-    book.groups() as usize == lists.len() && book.count() <= 4096
+    usize::from(book.groups()) == lists.len() && book.count() <= 4096
 }
 
 // Goes on where no list is empty.
@@ -69,7 +69,7 @@ fn words_fit(search: &OpenSearch, branch: &[u32], base: &[u32]) -> bool
     ensures { result ≡ ((nat_le «search».now.at.base_used (length base.now) && nat_le (length base.now) 65536) && nat_le (64 * «search».now.groups) (length branch.now)) }
 {
     let used = search.at.base_used as usize;
-    (used <= base.len() && base.len() <= 65536) && 64 * search.groups as usize <= branch.len()
+    (used <= base.len() && base.len() <= 65536) && 64 * usize::from(search.groups) <= branch.len()
 }
 
 // What of a group's free channels stays free after a decision on one of its assignments.
@@ -185,7 +185,7 @@ pub(crate) fn vet_sitting<B: RuleBook>(
 ) -> Result<(), Refusal>
     ensures { Vets result (sitting_refusal (asking «search».now.groups «search».now.at lists.now (B.meaning book.now).groups (B.meaning book.now).count allowance (sizes regions.now) regions.now.branch.now regions.now.base.now)) }
 {
-    let as_many = search.groups as usize == lists.len();
+    let as_many = usize::from(search.groups) == lists.len();
     refuse_unless(
         in_range(lists) && (book_agrees(lists, book) && as_many),
         Refusal::Counts,
@@ -202,8 +202,8 @@ pub(crate) fn vet_sitting<B: RuleBook>(
     )?;
     vet_branch(search, lists, branch)?;
     vet_base(search, lists, base)?;
-    let full = search.at.branch_len >= 64 * search.groups as u32;
-    refuse_unless(!full, Refusal::BranchFull)
+    let places = 64 * u32::from(search.groups);
+    refuse_unless(search.at.branch_len < places, Refusal::BranchFull)
 }
 
 // Why a restart is refused.
@@ -215,7 +215,7 @@ pub(crate) fn vet_restart(
 ) -> Result<(), Refusal>
     ensures { Vets result (restart_refusal (recall «search».now lists.now branch.now base.now)) }
 {
-    let as_many = search.groups as usize == lists.len();
+    let as_many = usize::from(search.groups) == lists.len();
     refuse_unless(in_range(lists) && as_many, Refusal::Counts)?;
     vet_lists(lists)?;
     refuse_unless(words_fit(search, branch, base), Refusal::RegionTooShort)?;
