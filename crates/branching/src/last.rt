@@ -67,11 +67,9 @@ impl<O: Order> Order for LastConflict<O> {
         if let Some(g) = self.earliest_open(domains) {
             return Some(g);
         }
-        if let Some(g) = self.candidate.take() {
-            if is_open(domains, g) {
-                self.kept.push(g);
-                return Some(g);
-            }
+        if let Some(g) = self.candidate.take().filter(|g| is_open(domains, *g)) {
+            self.kept.push(g);
+            return Some(g);
         }
         self.kept.clear();
         self.below.group(domains)

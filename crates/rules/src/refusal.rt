@@ -81,16 +81,16 @@ impl Refusal {
         ensures { result ≡ placed self.now }
     {
         match *self {
-            Refusal::InputEnds(at) => at,
-            Refusal::UnknownKind(at) => at,
-            Refusal::EmptyList(at) => at,
-            Refusal::NoSuchGroup(at) => at,
-            Refusal::EqualGroups(at) => at,
-            Refusal::WrongCounts(at) => at,
-            Refusal::BytesAfterEnd(at) => at,
-            Refusal::NoPlace(at) => at,
-            Refusal::NotListed(at) => at,
-            Refusal::RuleBroken(at) => at,
+            Refusal::InputEnds(at)
+            | Refusal::UnknownKind(at)
+            | Refusal::EmptyList(at)
+            | Refusal::NoSuchGroup(at)
+            | Refusal::EqualGroups(at)
+            | Refusal::WrongCounts(at)
+            | Refusal::BytesAfterEnd(at)
+            | Refusal::NoPlace(at)
+            | Refusal::NotListed(at)
+            | Refusal::RuleBroken(at) => at,
             _ => 0,
         }
     }
