@@ -5,14 +5,14 @@ ghost use Rattle.model.specs.Said.{word_of};
 use model::decision::assignment_word;
 
 // One end of a rule: that of its first group, or of its second.
-#[derive(Clone, Copy)]
+#[derive(Clone, Copy, Default)]
 pub struct RuleEnd {
     pub rule: u32,
     pub second: bool,
 }
 
 // A group with one channel.
-#[derive(Clone, Copy)]
+#[derive(Clone, Copy, Default)]
 pub struct Assignment {
     pub group: u16,
     pub channel: u8,
