@@ -42,22 +42,16 @@ pub and_false : (b : Bool) → (b && false) ≡ false
 and_false true = refl
 and_false false = refl
 
+turned : (a b : Bool) → (a && (b && true)) ≡ (b && a)
+turned true true = refl
+turned true false = refl
+turned false true = refl
+turned false false = refl
+
 -- A decision leaves free what was free and is free beside it, and every assignment of another group.
 free_split : (v : ℕ) (d : Decision) (ds : List Decision) → (free? v ds && free? v (d ∷ [])) ≡ free? v (d ∷ ds)
 free_split v (taken w) ds = turned (free? v ds) (not (eqb (grp w) (grp v)))
-  where
-    turned : (a b : Bool) → (a && (b && true)) ≡ (b && a)
-    turned true true = refl
-    turned true false = refl
-    turned false true = refl
-    turned false false = refl
 free_split v (refused w) ds = turned (free? v ds) (not (eqb w v))
-  where
-    turned : (a b : Bool) → (a && (b && true)) ≡ (b && a)
-    turned true true = refl
-    turned true false = refl
-    turned false true = refl
-    turned false false = refl
 
 free_elsewhere : (v : ℕ) (d : Decision) (ds : List Decision) → grp v ≢ grp (word d) → free? v ds ≡ free? v (d ∷ ds)
 free_elsewhere v (taken w) ds ne = ap (λ b. not b && free? v ds) (sym (ne_eqb (grp w) (grp v) (λ q. ne (sym q))))
