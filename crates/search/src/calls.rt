@@ -54,8 +54,7 @@ pub fn sitting<B: RuleBook, O: Order, P: RestartPolicy>(
     if let Err(refusal) = vet_sitting(&search, lists, book, allowance, regions) {
         return Err((refusal, search));
     }
-    let OpenSearch { groups, at: start } = search;
-    let mut at = start;
+    let OpenSearch { groups, mut at } = search;
     let mut left = allowance;
     let mut last = None;
     'moves: loop {
@@ -89,8 +88,7 @@ pub fn restart<P: RestartPolicy>(
     if let Err(refusal) = vet_restart(&search, lists, branch, base) {
         return Err((refusal, search));
     }
-    let OpenSearch { groups, at: start } = search;
-    let mut at = start;
+    let OpenSearch { groups, mut at } = search;
     restart_move(policy, &mut at, branch, base);
     Ok(OpenSearch { groups, at })
 }
