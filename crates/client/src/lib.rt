@@ -25,6 +25,7 @@ pub fn sit_twice<B: RuleBook, O: Order, P: RestartPolicy>(
     regions: &mut Regions<'_>,
 ) -> Result<Sat, (Refusal, OpenSearch)> {
     match sitting(search, lists, book, order, policy, allowance, regions)? {
+        // Each settled end has a line of its own, since the first is one of the uses that are tried wrong.
         Sat::Open(next) => sitting(next, lists, book, order, policy, allowance, regions),
         Sat::Plan(done) => Ok(Sat::Plan(done)),
         Sat::None(done) => Ok(Sat::None(done)),

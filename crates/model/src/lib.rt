@@ -1,4 +1,4 @@
-// The theorems on runs of the search. Each function's contract is one theorem of specs/Statements.antt; the functions compute nothing.
+// The theorems on runs of the search. Each function's contract is one theorem of specs/Statements.antt; the functions of this file compute nothing.
 #![tactic(auto)]
 
 pub mod decision;

@@ -38,16 +38,12 @@ impl fmt::Display for Verdict {
 
 impl fmt::Display for Answer {
     fn fmt<W: fmt::Write>(&self, f: &mut fmt::Formatter<W>) -> fmt::Result {
-        let Answer {
-            verdict,
-            counts,
-            base: _,
-        } = self;
+        let verdict = &self.verdict;
         let Counts {
             moves,
             closings,
             restarts,
-        } = *counts;
+        } = self.counts;
         write!(
             f,
             "{verdict}moves {moves} closings {closings} restarts {restarts}"

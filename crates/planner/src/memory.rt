@@ -27,7 +27,8 @@ pub struct Memory {
     pub settled: Vec<Assignment>,
 }
 
-// One sitting in these regions, side by side.
+// One sitting in these regions, side by side. It is lent slices: of a vector's part that lies in a struct the caller does not learn
+// what it is left as, and of a slice that was lent to this function it does.
 fn sit_in<'r, B: RuleBook, O: Order, P: RestartPolicy>(
     search: OpenSearch,
     lists: &[u64],
@@ -65,22 +66,14 @@ impl Memory {
         ensures rest { IfOk result (Roomy (vec_len store.now.lists) (vec_len store.now.gaps + vec_len store.now.tables)) }
     {
         let groups = store.lists.len();
-        let end = RuleEnd {
-            rule: 0,
-            second: false,
-        };
-        let assignment = Assignment {
-            group: 0,
-            channel: 0,
-        };
         Ok(Memory {
             domains: vec![in heap; 0u64; groups]?,
             branch: vec![in heap; 0u32; 64 * groups]?,
             plan: vec![in heap; 0u8; groups]?,
             base: vec![in heap; 0u32; base_words as usize]?,
             marks: vec![in heap; 0u32; 256]?,
-            ends: vec![in heap; end; 2 * store.rules()]?,
-            settled: vec![in heap; assignment; groups]?,
+            ends: vec![in heap; RuleEnd::default(); 2 * store.rules()]?,
+            settled: vec![in heap; Assignment::default(); groups]?,
         })
     }
 

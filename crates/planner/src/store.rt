@@ -12,18 +12,6 @@ pub const GROUPS: usize = 200;
 
 pub const RULES: usize = 4096;
 
-const NO_GAP: GapEntry = GapEntry {
-    first: 0,
-    second: 0,
-    gap: 0,
-};
-
-const NO_TABLE: TableEntry = TableEntry {
-    first: 0,
-    second: 0,
-    offset: 0,
-};
-
 // What a job says: its lists, its gaps and its tables.
 #[derive(Drop)]
 pub struct Store {
@@ -37,6 +25,7 @@ pub struct Store {
 }
 
 impl Store {
+    // These name the struct itself, so they are brought in here and not above it.
     ghost use Rattle.planner.specs.Stores.{Stored, Unstored};
 
     // The lists, the gaps and the tables of a job, or its first fault.
@@ -44,8 +33,8 @@ impl Store {
         ensures { MatchResult result (λ s. Stored job.now s) (λ e. Unstored job.now e) }
     {
         let mut lists = vec![in heap; 0u64; GROUPS]?;
-        let mut gaps = vec![in heap; NO_GAP; RULES]?;
-        let mut tables = vec![in heap; NO_TABLE; RULES]?;
+        let mut gaps = vec![in heap; GapEntry::default(); RULES]?;
+        let mut tables = vec![in heap; TableEntry::default(); RULES]?;
         let loaded = load(job, &mut lists, &mut gaps, &mut tables)?;
         lists.truncate(loaded.groups as usize);
         gaps.truncate(loaded.gaps as usize);

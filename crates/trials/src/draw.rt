@@ -86,7 +86,7 @@ impl Draw {
     fn rows(&mut self) -> [u64; 64] {
         let dense = self.below(2) == 1;
         let mut rows = [0u64; 64];
-        for row in rows.iter_mut() {
+        for row in &mut rows {
             *row = if dense {
                 self.bits() | self.bits()
             } else {

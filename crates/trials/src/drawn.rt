@@ -13,7 +13,13 @@ use planner::error::PlanError;
 use planner::memory::Memory;
 use planner::solve::{PROGRAM, Settings, plan, solve};
 use planner::store::Store;
+use propagation::records::{Assignment, RuleEnd};
 use std::alloc::{AllocError, Global};
+
+// The most groups and the most rules of a drawn job.
+const GROUPS: usize = 7;
+
+const RULES: usize = 50;
 
 const SHORT_BASE: Settings = Settings {
     base_words: 40,
@@ -36,6 +42,16 @@ pub struct Tallies {
     pub calls: Calls,
 }
 
+// Regions for the largest drawn job, and so longer than most jobs need; a plan has as many bytes as groups.
+fn roomy_memory(heap: Global, store: &Store) -> Result<Memory, PlanError> {
+    let mut memory = Memory::new(heap, store, 60)?;
+    memory.domains = vec![in heap; 0u64; GROUPS]?;
+    memory.branch = vec![in heap; 0u32; 64 * GROUPS]?;
+    memory.ends = vec![in heap; RuleEnd::default(); 2 * RULES]?;
+    memory.settled = vec![in heap; Assignment::default(); GROUPS]?;
+    Ok(memory)
+}
+
 // Plays a script of calls on the job that the bytes say.
 fn play_job(
     heap: Global,
@@ -44,7 +60,7 @@ fn play_job(
     calls: &mut Calls,
 ) -> Result<Answer, PlanError> {
     let store = Store::load(heap, job)?;
-    let mut memory = Memory::new(heap, &store, 60)?;
+    let mut memory = roomy_memory(heap, &store)?;
     let book = book(job, store.loaded, &store.gaps, &store.tables);
     let sat = play(draw, &store.lists, &book, &mut memory, calls)?;
     Ok(memory.answer(sat))

@@ -7,14 +7,12 @@ fn complete(job: &Job, channels: &mut Vec<u8>, left: &[u64]) -> Result<bool, All
     let Some((list, later)) = left.split_first() else {
         return Ok(true);
     };
-    for channel in 0..64u8 {
-        if has(*list, channel) {
-            channels.push(channel)?;
-            if job.keeps_rules(channels) && complete(job, channels, later)? {
-                return Ok(true);
-            }
-            let _ = channels.pop();
+    for channel in (0..64u8).filter(|c| has(*list, *c)) {
+        channels.push(channel)?;
+        if job.keeps_rules(channels) && complete(job, channels, later)? {
+            return Ok(true);
         }
+        let _ = channels.pop();
     }
     Ok(false)
 }
