@@ -96,7 +96,7 @@ pub fn propagate_decision<B: RuleBook>(
         &mut bench.ends[0..places],
         &mut bench.settled[0..n],
     );
-    let found = desk.filter_decision(lists, branch);
+    desk.filter_decision(lists, branch)?;
     desk.write(&mut bench.domains[0..n]);
-    found
+    Ok(())
 }

@@ -102,7 +102,7 @@ pub fn propagate<B: RuleBook>(
         &mut bench.ends[0..places],
         &mut bench.settled[0..n],
     );
-    let found = desk.filter(lists, branch);
+    desk.filter(lists, branch)?;
     desk.write(&mut bench.domains[0..n]);
-    found
+    Ok(())
 }
