@@ -4,10 +4,10 @@ use Rattle.propagation.proofs.wires.wire.Goals as goal
 
 pub loop-i-init : goal.loop-i-init
 loop-i-init g c = (
-    search rules,
-    chained_none (g.B.RuleBook.meaning c.args.book.now) c.fill.new.self
-    (λ i. ap (λ (x : List ℕ). get_or x i 0) (c.fill.ensures.after (λ y e. e)) ∙ zeros (length c.args.wires.now) i),
-  )
+  search rules,
+  chained_none (g.B.RuleBook.meaning c.args.book.now) c.fill.new.self
+      (λ i. ap (λ (x : List ℕ). get_or x i 0) (c.fill.ensures.after (λ y e. e)) ∙ zeros (length c.args.wires.now) i),
+)
 
 pub returns : goal.returns
 returns g c =
