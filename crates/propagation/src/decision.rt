@@ -16,7 +16,7 @@ ghost use Rattle.propagation.specs.Benches.{SameRegions, Roomy, Beyond};
 use super::bench::{Bench, Dead};
 use super::desk::Desk;
 use super::start::alone;
-use super::wires::wire;
+use super::wires::{CHAINS, wire};
 use model::decision::{channel_of, group_of};
 use rules::book::RuleBook;
 
@@ -84,7 +84,7 @@ pub fn propagate_decision<B: RuleBook>(
     let n = lists.len();
     let places = 2 * book.count() as usize;
     let mut remain = [0u64; 200];
-    let mut wires = [0u16; 8392];
+    let mut wires = [0u16; CHAINS];
     wire(book, &mut wires);
     bench.read(&mut remain[0..n]);
     let mut desk = Desk::over(
@@ -96,7 +96,7 @@ pub fn propagate_decision<B: RuleBook>(
         &mut bench.ends[0..places],
         &mut bench.settled[0..n],
     );
-    let found = desk.filter_decision(lists, branch);
+    desk.filter_decision(lists, branch)?;
     desk.write(&mut bench.domains[0..n]);
-    found
+    Ok(())
 }

@@ -16,7 +16,7 @@ ghost use Rattle.propagation.specs.Benches.{SameRegions, Roomy, Beyond};
 use super::bench::{Bench, Dead};
 use super::desk::Desk;
 use super::start::{decide_all, some_empty};
-use super::wires::wire;
+use super::wires::{CHAINS, wire};
 use rules::book::RuleBook;
 
 // The lists after the decisions.
@@ -91,7 +91,7 @@ pub fn propagate<B: RuleBook>(
     let n = lists.len();
     let places = 2 * book.count() as usize;
     let mut remain = [0u64; 200];
-    let mut wires = [0u16; 8392];
+    let mut wires = [0u16; CHAINS];
     wire(book, &mut wires);
     let mut desk = Desk::over(
         book,
@@ -102,7 +102,7 @@ pub fn propagate<B: RuleBook>(
         &mut bench.ends[0..places],
         &mut bench.settled[0..n],
     );
-    let found = desk.filter(lists, branch);
+    desk.filter(lists, branch)?;
     desk.write(&mut bench.domains[0..n]);
-    found
+    Ok(())
 }

@@ -36,7 +36,7 @@ impl<'d, B: RuleBook> Desk<'d, B> {
         let (near, far) = turned(e.second, pair);
         let set = self.domains[near as usize];
         let across = self.domains[far as usize];
-        let keeps = kept_at(self.book, e.rule, e.second, set, across);
+        let keeps = kept_at(self.book, e, set, across);
         self.shrink(near, keeps)
     }
 }

@@ -4,27 +4,28 @@ ghost use Rattle.rules.specs.Channels.{has};
 ghost use Rattle.propagation.specs.Supports.{allows, Backed, Kept};
 
 use super::bits::{lowest, without};
+use super::records::RuleEnd;
 use rules::book::RuleBook;
 
 // Whether the rule permits `a` at this end with `b` across.
-pub fn allowed<B: RuleBook>(book: &B, rule: u32, second: bool, a: u8, b: u8) -> bool
-    ensures { result ≡ allows (B.meaning book.now) rule second a b }
+pub fn allowed<B: RuleBook>(book: &B, e: RuleEnd, a: u8, b: u8) -> bool
+    ensures { result ≡ allows (B.meaning book.now) e.rule e.second a b }
 {
-    if second {
-        book.permits(rule, b, a)
+    if e.second {
+        book.permits(e.rule, b, a)
     } else {
-        book.permits(rule, a, b)
+        book.permits(e.rule, a, b)
     }
 }
 
 // Whether some channel across goes with `a`.
-pub fn backed<B: RuleBook>(book: &B, rule: u32, second: bool, a: u8, across: u64) -> bool
-    ensures { Decides result (Backed (B.meaning book.now) rule second across a) }
+pub fn backed<B: RuleBook>(book: &B, e: RuleEnd, a: u8, across: u64) -> bool
+    ensures { Decides result (Backed (B.meaning book.now) e.rule e.second across a) }
 {
     let mut left = across;
     while left != 0 {
         let b = lowest(left);
-        if allowed(book, rule, second, a, b) {
+        if allowed(book, e, a, b) {
             return true;
         }
         left = without(left, b);
@@ -33,14 +34,14 @@ pub fn backed<B: RuleBook>(book: &B, rule: u32, second: bool, a: u8, across: u64
 }
 
 // The set without `a`, unless that is backed from across.
-pub fn trimmed<B: RuleBook>(book: &B, rule: u32, second: bool, set: u64, across: u64, a: u8) -> u64
+pub fn trimmed<B: RuleBook>(book: &B, e: RuleEnd, set: u64, across: u64, a: u8) -> u64
     requires { a < 64 }
     ensures less { result ≤ set }
     ensures inside { (j : ℕ) → has result j ≡ true → has set j ≡ true }
-    ensures here { has result a ≡ true → Backed (B.meaning book.now) rule second across a }
-    ensures all { (j : ℕ) → has set j ≡ true → Backed (B.meaning book.now) rule second across j → has result j ≡ true }
+    ensures here { has result a ≡ true → Backed (B.meaning book.now) e.rule e.second across a }
+    ensures all { (j : ℕ) → has set j ≡ true → Backed (B.meaning book.now) e.rule e.second across j → has result j ≡ true }
 {
-    if backed(book, rule, second, a, across) {
+    if backed(book, e, a, across) {
         set
     } else {
         without(set, a)
@@ -48,15 +49,15 @@ pub fn trimmed<B: RuleBook>(book: &B, rule: u32, second: bool, set: u64, across:
 }
 
 // The channels of `set` that are backed from across.
-pub fn kept_at<B: RuleBook>(book: &B, rule: u32, second: bool, set: u64, across: u64) -> u64
+pub fn kept_at<B: RuleBook>(book: &B, e: RuleEnd, set: u64, across: u64) -> u64
     ensures less { result ≤ set }
-    ensures kept { Kept (B.meaning book.now) rule second set across result }
+    ensures kept { Kept (B.meaning book.now) e.rule e.second set across result }
 {
     let mut rest = set;
     let mut left = set;
     while left != 0 {
         let a = lowest(left);
-        rest = trimmed(book, rule, second, rest, across, a);
+        rest = trimmed(book, e, rest, across, a);
         left = without(left, a);
     }
     rest

@@ -1,25 +1,27 @@
 // The rule ends across from each group as chains, so that what a group's loss calls for is found without a look at every rule.
-ghost use Rattle.std.specs.Prelude.{◌≡◌, ℕ, ◌+◌, ◌*◌, ◌<◌, ◌≤◌, length};
+ghost use Rattle.std.specs.Prelude.{◌≡◌, ℕ, ◌+◌, ◌*◌, ◌<◌, ◌≤◌};
 ghost use Rattle.propagation.specs.Wires.{Facing, Chained, Wired};
 
 use rules::book::RuleBook;
 
+// The words of the chains: one for each of 8192 ends, and one for each of 200 groups.
+pub const CHAINS: usize = 8392;
+
 // The end numbered `e`, which has group `g` across, goes in front of the group's chain.
-pub fn chain<B: RuleBook>(book: &B, wires: &mut [u16], g: u16, e: u16)
-    requires size { length wires.old ≡ 8392 }
+pub fn chain<B: RuleBook>(book: &B, wires: &mut [u16; CHAINS], g: u16, e: u16)
     requires group { g < 200 }
     requires end { e < 8192 }
     requires faces { Facing (B.meaning book.now) g e }
     requires before { Chained (B.meaning book.now) e wires.old }
     ensures { Chained (B.meaning book.now) (e + 1) wires.new }
 {
-    wires[e as usize] = wires[8192 + g as usize];
-    wires[8192 + g as usize] = e + 1;
+    let last = 8192 + usize::from(g);
+    wires[usize::from(e)] = wires[last];
+    wires[last] = e + 1;
 }
 
 // Both ends of a rule, where it has any.
-pub fn chain_rule<B: RuleBook>(book: &B, wires: &mut [u16], i: u32)
-    requires size { length wires.old ≡ 8392 }
+pub fn chain_rule<B: RuleBook>(book: &B, wires: &mut [u16; CHAINS], i: u32)
     requires groups { (B.meaning book.now).groups ≤ 200 }
     requires rule { i < 4096 }
     requires before { Chained (B.meaning book.now) (2 * i) wires.old }
@@ -33,8 +35,7 @@ pub fn chain_rule<B: RuleBook>(book: &B, wires: &mut [u16], i: u32)
 }
 
 // All rules of the book.
-pub fn wire<B: RuleBook>(book: &B, wires: &mut [u16])
-    requires size { length wires.old ≡ 8392 }
+pub fn wire<B: RuleBook>(book: &B, wires: &mut [u16; CHAINS])
     requires groups { (B.meaning book.now).groups ≤ 200 }
     requires rules { (B.meaning book.now).count ≤ 4096 }
     ensures { Wired (B.meaning book.now) wires.new }

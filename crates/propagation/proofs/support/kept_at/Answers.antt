@@ -17,7 +17,7 @@ loop-left-preserved g c =
       omega (arith, t.less, i.0),
       λ j h. i.1 j (t.inside j h),
       λ j n h. elim (cases_eq j a) [
-        | inl q ↦ subst (λ (x : ℕ). Backed m c.args.rule c.args.second c.args.across x) (sym q) (t.here (subst (λ (x : ℕ). has r x ≡ true) q h))
+        | inl q ↦ subst (λ (x : ℕ). Backed m c.args.e.rule c.args.e.second c.args.across x) (sym q) (t.here (subst (λ (x : ℕ). has r x ≡ true) q h))
         | inr d ↦ elim (cases_Bool (has l j)) [
           | inl y ↦ absurd (both_ways (has w j) n (cut_stays l a w c.without-left.ensures.bits j y d))
           | inr y ↦ i.2 j y (t.inside j h)
