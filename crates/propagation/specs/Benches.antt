@@ -2,12 +2,16 @@
 use Rattle.std.specs.Prelude.{◌≡◌, ℕ, ◌*◌, ◌≤◌, length, drop}
 use Rattle.propagation.specs.declared.bench.Bench.{Bench}
 
--- The later bench has the very regions that the earlier one has.
+-- The later bench has the very regions that the earlier one has, of the sizes that they had.
 pub record SameRegions (b b' : Bench) : Type 0 where
   pub domains : b'.domains.ghost_name ≡ b.domains.ghost_name
   pub marks : b'.marks.ghost_name ≡ b.marks.ghost_name
   pub ends : b'.ends.ghost_name ≡ b.ends.ghost_name
   pub settled : b'.settled.ghost_name ≡ b.settled.ghost_name
+  pub domains_size : length b'.domains.now ≡ length b.domains.now
+  pub marks_size : length b'.marks.now ≡ length b.marks.now
+  pub ends_size : length b'.ends.now ≡ length b.ends.now
+  pub settled_size : length b'.settled.now ≡ length b.settled.now
 
 -- The regions are large enough for the groups and the rules.
 pub record Roomy (groups rules : ℕ) (b : Bench) : Type 0 where
