@@ -69,6 +69,7 @@ impl<'d, B: RuleBook> Desk<'d, B> {
 }
 
 // What remains of the lists, over the regions of a sitting, which may be longer: words beyond the sizes needed are untouched.
+// The desk keeps the family in an array of its own, since of a region behind it the check would not know what it is left as.
 // An inner call: the search validates what is required here.
 pub fn propagate<B: RuleBook>(
     lists: &[u64],
