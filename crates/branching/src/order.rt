@@ -13,6 +13,7 @@ pub trait Order {
 
     ghost meaning: { OrderMeaning Held };
 
+    // The answer is a 16-bit number, which bounds the domains here and in `pick`.
     fn group(&mut self, domains: &[u64]) -> Option<u16>
         requires { length domains.now ≤ 65536 }
         ensures answer { result ≡ meaning.group (held self.old) domains.now }
@@ -57,6 +58,7 @@ impl Order for FewestFirst {
         ensures after { ◌≡◌ {A = Unit {0}} tt tt }
         ensures least { FewestAnswer domains.now result }
     {
+        // A `for`: of `filter` and `min_by_key` a proof does not learn that no open group is left out.
         let mut best: Option<(u16, u32)> = None;
         for (g, d) in domains.iter().enumerate() {
             let n = d.count_ones();

@@ -19,6 +19,7 @@ pub trait RestartPolicy {
     ghost lawful: { LawfulPolicy meaning };
 }
 
+// It shares a number with a bound with the steady policy; start, bound and step differ, so these are two types.
 #[derive(Drop)]
 pub struct Geometric {
     value: u32,

@@ -19,6 +19,7 @@ pub enum PlanError {
     NoMemory,
 }
 
+// The conversions are by hand, since contracts read what `from_gives` says.
 impl From<Refusal> for PlanError {
     ghost from_gives = { λ e r. r ≡ refused_by e };
 

@@ -12,7 +12,7 @@ pub const GROUPS: usize = 200;
 
 pub const RULES: usize = 4096;
 
-// What a job says: its lists, its gaps and its tables.
+// What a job says: its lists, its gaps and its tables, with their numbers as a book takes them.
 #[derive(Drop)]
 pub struct Store {
     pub loaded: Loaded,

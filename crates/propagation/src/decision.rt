@@ -83,6 +83,7 @@ pub fn propagate_decision<B: RuleBook>(
 {
     let n = lists.len();
     let places = 2 * book.count() as usize;
+    // In an array, as in `propagate`, which starts otherwise and lays out its desk in the same lines: no function can hand a desk out.
     let mut remain = [0u64; 200];
     let mut wires = [0u16; CHAINS];
     wire(book, &mut wires);

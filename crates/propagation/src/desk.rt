@@ -12,6 +12,7 @@ use super::ring::Ring;
 use rules::book::RuleBook;
 
 // A book with its chains and the base, what remains of the lists, and the two lines of what waits to be looked at.
+// That it is in order is a clause (`Held`) and no ghost field: that every group keeps something is a part of it, and ends with `Dead`.
 #[derive(Drop)]
 pub struct Desk<'d, B: RuleBook> {
     pub book: &'d B,

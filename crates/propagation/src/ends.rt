@@ -39,6 +39,7 @@ pub fn unmark(marks: &mut [u32], e: u32)
     marks[(e / 32) as usize] -= 1 << (e % 32);
 }
 
+// This and `draw` are functions beside the line's methods: in a method the line's facts would have to hold between the two writes.
 // Puts an end in a line with its marks, unless it waits there.
 pub fn put(ends: &mut Ring<RuleEnd>, marks: &mut [u32], rules: u32, e: RuleEnd)
     requires line { Line rules (queued ends.old) marks.old }

@@ -91,6 +91,7 @@ pub fn propagate<B: RuleBook>(
 {
     let n = lists.len();
     let places = 2 * book.count() as usize;
+    // The work goes on in an array: of a region in a desk the check does not learn what it is left as.
     let mut remain = [0u64; 200];
     let mut wires = [0u16; CHAINS];
     wire(book, &mut wires);

@@ -64,6 +64,7 @@ impl<'r> Line<'r> {
         ensures still { Still (queued self.old.ends) (queued self.new.ends) }
         ensures both { (s : Bool) → waits (queued self.new.ends) (at_end rule s) ≡ true }
     {
+        // Two lines: a loop over the two flags would need an invariant over the place in their array.
         self.add(RuleEnd {
             rule,
             second: false,
@@ -76,6 +77,7 @@ impl<'r> Line<'r> {
         ensures same { SameLine self.old self.new }
         ensures all { (i : ℕ) (s : Bool) → i < self.old.rules → waits (queued self.new.ends) (at_end i s) ≡ true }
     {
+        // Rules have numbers and no list to go over.
         for rule in 0..self.rules {
             self.add_both(rule);
         }

@@ -75,7 +75,8 @@ impl<'d, B: RuleBook> Desk<'d, B> {
         self.shrink(g as u16, keeps)
     }
 
-    // The assignment of a nogood that has to go, if there is one.
+    // The assignment of a nogood that has to go, if there is one. (A method of its own: where a `&mut` desk lends its domains as `&`, what they
+    // are is not known afterwards.)
     pub fn forced(&self, nogood: &[u32]) -> Option<u32>
         requires { Grouped (length self.now.domains.now) nogood.now }
         ensures { MatchOption result ((k : ℕ) → k < length nogood.now → Forced (family self.now.domains.now) nogood.now (slice_index nogood.now k) → ⊥) (λ w. (k : ℕ) × (k < length nogood.now) × (w ≡ slice_index nogood.now k) × Forced (family self.now.domains.now) nogood.now w) }

@@ -4,7 +4,7 @@ ghost use Rattle.model.specs.Said.{word_of};
 
 use model::decision::assignment_word;
 
-// One end of a rule: that of its first group, or of its second.
+// One end of a rule: that of its first group, or of its second, which the flag says and nothing else.
 #[derive(Clone, Copy, Default)]
 pub struct RuleEnd {
     pub rule: u32,

@@ -6,6 +6,7 @@ ghost use Rattle.rules.specs.declared.refusal.Refusal.TheVariants.{LineFull};
 use rules::refusal::Refusal;
 
 // A line over lent places: the oldest first, freed places used again.
+// The places are lent, so their number and the head and length are kept beside them.
 // Every state stands for a line: a head past the places counts as 0, a length past their number as that number.
 #[derive(Drop)]
 pub struct Ring<'a, T> {

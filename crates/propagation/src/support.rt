@@ -18,7 +18,8 @@ pub fn allowed<B: RuleBook>(book: &B, e: RuleEnd, a: u8, b: u8) -> bool
     }
 }
 
-// Whether some channel across goes with `a`.
+// Whether some channel across goes with `a`. Here and in `kept_at` the loop takes the lowest channel that is left, and so looks at
+// those that are there alone; a range of 64 numbers would look at all.
 pub fn backed<B: RuleBook>(book: &B, e: RuleEnd, a: u8, across: u64) -> bool
     ensures { Decides result (Backed (B.meaning book.now) e.rule e.second across a) }
 {

@@ -4,7 +4,7 @@ ghost use Rattle.propagation.specs.Wires.{Facing, Chained, Wired};
 
 use rules::book::RuleBook;
 
-// The words of the chains: one for each of 8192 ends, and one for each of 200 groups.
+// The words of the chains: one for each of 8192 ends, and one for each of 200 groups. They lie in an array, since nothing here has a heap.
 pub const CHAINS: usize = 8392;
 
 // The end numbered `e`, which has group `g` across, goes in front of the group's chain.
@@ -41,6 +41,7 @@ pub fn wire<B: RuleBook>(book: &B, wires: &mut [u16; CHAINS])
     ensures { Wired (B.meaning book.now) wires.new }
 {
     wires.fill(0);
+    // Rules have numbers and no list to go over.
     for i in 0..book.count() {
         chain_rule(book, wires, i);
     }

@@ -33,6 +33,7 @@ fn write_plan(groups: usize, domains: &[u64], plan: &mut [u8])
     ensures fits { (g : ℕ) → g < groups → slice_index domains.now g < 2 ^ 64 }
     ensures beyond { drop groups plan.new ≡ drop groups plan.old }
 {
+    // By index: what `iter_mut` leaves of a slice is known by its length alone.
     for (group, domain) in domains[..groups].iter().enumerate() {
         plan[group] = domain.trailing_zeros() as u8;
     }
@@ -57,6 +58,7 @@ pub fn sitting<B: RuleBook, O: Order, P: RestartPolicy>(
     let OpenSearch { groups, mut at } = search;
     let mut left = allowance;
     let mut last = None;
+    // A loop: its ends are answers of the turn.
     'moves: loop {
         match turn(last, lists, book, order, policy, left, &mut at, regions) {
             Step::None => return Ok(Sat::None(SettledSearch { counts: at.counts })),

@@ -10,7 +10,7 @@ pub struct Counts {
     pub restarts: u32,
 }
 
-// How far a search has come: the used words of its branch and its base, and its counts.
+// How far a search has come: the used words of its branch and its base, and its counts. The words lie in regions that are lent call by call.
 #[derive(Clone, Copy, Default)]
 pub struct Progress {
     pub(crate) branch_len: u32,

@@ -12,6 +12,7 @@ fn copy_taken(rest: &mut [u32], branch: &[u32]) -> usize
     ensures count { result ≡ length (takens (branch_of branch.now (length branch.now))) }
     ensures wrote { rest.new ≡ takens (branch_of branch.now (length branch.now)) ++ drop (length (takens (branch_of branch.now (length branch.now)))) rest.old }
 {
+    // By index: what `iter_mut` leaves of a slice is known by its length alone.
     let mut n = 0usize;
     for word in branch {
         if let Decision::Taken(assignment) = Decision::from(*word) {

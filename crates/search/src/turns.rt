@@ -68,7 +68,8 @@ fn is_due<P: RestartPolicy>(policy: &P, at: &Progress, branch: &[u32], base: &[u
     policy.cutoff() <= at.since && has_space(at, branch, base)
 }
 
-// A turn where every group keeps a channel.
+// A turn where every group keeps a channel. It takes the whole region of domains with the number of groups: of a part of a region in a
+// struct the check does not learn what it is left as.
 fn turn_alive<O: Order, P: RestartPolicy>(
     order: &mut O,
     policy: &mut P,
@@ -110,6 +111,7 @@ fn turn_alive<O: Order, P: RestartPolicy>(
 }
 
 // What remains in the state that the numbers and the words stand for, unless it is dead; after a decision, from what remained before it.
+// It takes the four regions one by one: with the bench made in `turn` the proof does not close.
 fn refresh<B: RuleBook>(
     last: Option<Move>,
     lists: &[u64],

@@ -101,6 +101,7 @@ fn branch_sound(lists: &[u64], branch: &[u32]) -> bool
     requires few { length lists.now ≤ 200 }
     ensures { result ≡ branch? lists.now (branch_of branch.now (length branch.now)) }
 {
+    // An array, since nothing here has a heap.
     let mut room = [0u64; 200];
     let free = &mut room[..lists.len()];
     free.copy_from_slice(lists);

@@ -7,7 +7,7 @@ ghost use Rattle.trials.specs.Kept.{has, listed, apart, in_rows, kept, all_kept,
 
 use std::alloc::{AllocError, Global};
 
-// What a record of a job's bytes tells.
+// What a record of a job's bytes tells. Nothing in this file is shared with the crates that it is held against.
 #[derive(Clone, Copy)]
 enum Kind {
     Counts,

@@ -87,7 +87,7 @@ impl<B: RuleBook> Script<'_, B> {
         )
     }
 
-    // A sitting with one of four pairs of order and policy.
+    // A sitting with one of four pairs of order and policy, each of other types.
     fn sit(&mut self, search: OpenSearch, allowance: u32) -> Result<Sat, (Refusal, OpenSearch)> {
         match self.draw.below(4) {
             0 => self.sit_by(search, allowance, FewestFirst, Steady::new(2)),
