@@ -47,6 +47,7 @@ pub fn sit_on<B: RuleBook, O: Order, P: RestartPolicy>(
     ensures goes_on { IfOk result (λ t. GoesOn (B.RuleBook.meaning book.now) lists.now «search» memory.old.branch.items memory.old.base.items memory.new.branch.items memory.new.base.items memory.new.plan.items t) }
     ensures comes { IfOk result (λ t. Comes (B.RuleBook.meaning book.now) lists.now «search» memory.old.branch.items memory.old.base.items memory.new.plan.items t) }
 {
+    // It repeats so often, and indexes nothing.
     for _sitting in 0..settings.sittings {
         match memory.sit(search, lists, book, order, policy, settings.allowance)? {
             Sat::Open(next) => search = next,

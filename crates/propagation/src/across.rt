@@ -20,6 +20,7 @@ impl<'d, B: RuleBook> Desk<'d, B> {
         ensures still { Still (queued self.old.line.ends) (queued self.new.line.ends) }
         ensures across { (i : ℕ) → Across (B.meaning self.old.book.now) g i (queued self.new.line.ends) }
     {
+        // Along the chain, which lies in an array, since nothing here has a heap. (The casts widen; of a `from` the proof would know less.)
         let mut next = self.wires[8192 + g as usize];
         while next > 0 {
             let e = next - 1;

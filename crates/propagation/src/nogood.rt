@@ -21,7 +21,7 @@ pub fn is_only(domains: &[u64], v: u32) -> bool
     without(domains[group_of(v)], channel_of(v)) == 0
 }
 
-// Whether the others are all settled.
+// Whether the others are all settled. (A `for`, here and in `unsettled`: of `all` and `find` the check does not find what the closure asks.)
 pub fn others_settled(nogood: &[u32], w: u32, domains: &[u64]) -> bool
     requires { Grouped (length domains.now) nogood.now }
     ensures { Decides result (Forced (family domains.now) nogood.now w) }

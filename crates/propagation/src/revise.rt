@@ -34,6 +34,7 @@ impl<'d, B: RuleBook> Desk<'d, B> {
             return Ok(());
         };
         let (near, far) = turned(e.second, pair);
+        // The casts widen; of a `from` the proof would know less.
         let set = self.domains[near as usize];
         let across = self.domains[far as usize];
         let keeps = kept_at(self.book, e, set, across);

@@ -41,6 +41,7 @@ impl<'d, B: RuleBook> Desk<'d, B> {
         ensures held { OnOk result (Held (B.meaning self.old.book.now) self.new) }
         ensures step { OnOk result (Step (B.meaning self.old.book.now) self.old self.new) }
     {
+        // The casts widen; of a `from` the proof would know less.
         let old = self.domains[g as usize];
         if keeps == old {
             return Ok(());

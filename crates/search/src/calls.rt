@@ -39,7 +39,9 @@ fn write_plan(groups: usize, domains: &[u64], plan: &mut [u8])
     }
 }
 
-// Makes moves on a search until it ends or the allowance is used up.
+// Makes moves on a search until it ends or the allowance is used up. A refusal comes with the search as it was, as a pair that a caller
+// takes apart at once. Lists and book, order and policy are parameters of their own: a restart takes lists without a book, and a
+// policy without an order.
 pub fn sitting<B: RuleBook, O: Order, P: RestartPolicy>(
     search: OpenSearch,
     lists: &[u64],

@@ -27,6 +27,7 @@ pub struct OpenSearch {
     ghost sized: { groups ≤ 200 },
     ghost within: { at.branch_len ≤ 64 * groups },
     ghost used: { at.base_used ≤ 65536 },
+    // A word, and no ghost field of `Progress`, since definitions make values of it.
     ghost counted: { Counted 0 at },
 }
 

@@ -141,6 +141,7 @@ fn refresh<B: RuleBook>(
         ends,
         settled,
     };
+    // Two calls with the same arguments, of which a closure would say no more.
     match last {
         Some(Move::Decide) => propagate_decision(lists, book, branch, base, &mut bench),
         _ => propagate(lists, book, branch, base, &mut bench),

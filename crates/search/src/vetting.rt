@@ -96,7 +96,8 @@ fn admit(free: &mut [u64], decision: Decision) -> bool
     true
 }
 
-// Whether the words are decisions on listed assignments, none twice and none of a group taken before.
+// Whether the words are decisions on listed assignments, none twice and none of a group taken before. That there are at most 200 lists
+// is asked of the slice, here and below: a type for it would go through every call.
 fn branch_sound(lists: &[u64], branch: &[u32]) -> bool
     requires few { length lists.now ≤ 200 }
     ensures { result ≡ branch? lists.now (branch_of branch.now (length branch.now)) }

@@ -41,6 +41,7 @@ impl Draw {
         ensures { IfOk result (λ v. length v.items ≡ count) }
     {
         let mut things = Vec::new(heap);
+        // It repeats so often, and indexes nothing.
         for _thing in 0..count {
             things.push(one(self))?;
         }

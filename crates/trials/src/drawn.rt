@@ -104,6 +104,7 @@ pub fn try_jobs(heap: Global, seed: u64, jobs: u32) -> Result<Tallies, AllocErro
     let mut draw = Draw::new(seed);
     let mut scripts = Draw::new(!seed);
     let mut tallies = Tallies::default();
+    // It repeats so often, and indexes nothing.
     for _job in 0..jobs {
         let job = draw.job(heap)?;
         tallies.try_job(heap, &mut scripts, &job)?;

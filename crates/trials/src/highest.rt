@@ -23,6 +23,7 @@ impl Order for HighestFirst {
         Some(g as u16)
     }
 
+    // As fewest first answers, from the other end.
     fn channel(&mut self, domains: &[u64], group: u16) -> Option<u8> {
         let channels = *domains.get(group as usize)?;
         if channels == 0 {

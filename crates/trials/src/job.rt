@@ -27,6 +27,7 @@ pub struct Gap {
 pub struct Table {
     pub first: u16,
     pub second: u16,
+    // A table has just so many.
     pub rows: [u64; 64],
 }
 

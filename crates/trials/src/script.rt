@@ -172,6 +172,7 @@ pub fn play<B: RuleBook>(
         memory,
         calls,
     };
+    // It repeats so often, and indexes nothing.
     for _call in 0..CALLS {
         match script.call(search) {
             Sat::Open(next) => search = next,
