@@ -22,7 +22,8 @@ use Rattle.rules.specs.declared.table.TableEntry.{TableEntry}
 use Rattle.jobs.specs.declared.load.Loaded.{Loaded}
 use Rattle.jobs.specs.Jobs.{State as Job, held}
 use Rattle.jobs.specs.Books.{book_at, book_of}
-use Rattle.planner.specs.Answers.{Came, Stands, GoesOn, Comes, reached, counted}
+use Rattle.planner.specs.Answers.{Came, Stands, GoesOn, Comes, reached}
+use Rattle.search.specs.Ends.{counted}
 
 -- The state that equal words stand for.
 same_state : (p : Progress) (a a' b b' : List ℕ) → a ≡ a' → b ≡ b' → state_of p a b ≡ state_of p a' b'

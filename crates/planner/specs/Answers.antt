@@ -16,6 +16,7 @@ use Rattle.search.specs.declared.held.Counts.{Counts}
 use Rattle.search.specs.declared.held.OpenSearch.{OpenSearch}
 use Rattle.search.specs.declared.held.Sat.{Sat}
 use Rattle.search.specs.declared.held.Sat.TheVariants.{Plan as SatPlan, None as SatNone, Open as SatOpen}
+use Rattle.search.specs.Ends.{counted}
 use Rattle.search.specs.Turns.{state_of}
 use Rattle.search.specs.Sittings.{Tells}
 use Rattle.planner.specs.Stores.{places, Unstored}
@@ -44,11 +45,6 @@ abbrev pub reached : List ℕ → Sat → Reached
 reached bytes (SatPlan _) = plan bytes
 reached bytes (SatNone _) = none
 reached bytes (SatOpen _) = unsettled
-
-abbrev pub counted : Sat → Counts
-counted (SatPlan d) = d.counts
-counted (SatNone d) = d.counts
-counted (SatOpen t) = t.at.counts
 
 -- The verdict of an answer.
 abbrev pub told_by : Verdict → Reached

@@ -1,7 +1,8 @@
 // The regions that are lent to the calls on a search, the sittings in them, and what these leave of an answer.
 ghost use Rattle.std.specs.Prelude.{◌≡◌, ◌+◌, IfOk, IfErr, OnErr, vec_items, vec_len};
 ghost use Rattle.search.specs.Sittings.{lent, Answers};
-ghost use Rattle.planner.specs.Answers.{Shaped, Roomy, Kept, Unmoved, GoesOn, reached, counted, told_by};
+ghost use Rattle.planner.specs.Answers.{Shaped, Roomy, Kept, Unmoved, GoesOn, reached, told_by};
+ghost use Rattle.search.specs.Ends.{counted};
 
 use crate::answer::{Answer, Verdict};
 use crate::error::PlanError;
@@ -117,10 +118,14 @@ impl Memory {
         ensures base { vec_len result.base ≡ vec_len self.base }
     {
         let Memory { plan, base, .. } = self;
-        let (verdict, counts) = match sat {
-            Sat::Plan(settled) => (Verdict::Plan(plan), settled.counts()),
-            Sat::None(settled) => (Verdict::None, settled.counts()),
-            Sat::Open(search) => (Verdict::Open, search.leave()),
+        let counts = sat.counts();
+        let verdict = match sat {
+            Sat::Plan(_) => Verdict::Plan(plan),
+            Sat::None(_) => Verdict::None,
+            Sat::Open(search) => {
+                let _ = search.leave();
+                Verdict::Open
+            }
         };
         Answer {
             verdict,

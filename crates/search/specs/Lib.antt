@@ -5,3 +5,4 @@ pub mod Turns
 pub mod Calls
 pub mod Sittings
 pub mod Restarts
+pub mod Ends

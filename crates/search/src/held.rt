@@ -44,6 +44,20 @@ pub enum Sat {
     Open(OpenSearch),
 }
 
+impl Sat {
+    ghost use Rattle.search.specs.Ends.{counted};
+
+    // What was made on the search up to this end.
+    pub fn counts(&self) -> Counts
+        ensures { result ≡ counted self.now }
+    {
+        match self {
+            Sat::Plan(settled) | Sat::None(settled) => settled.counts,
+            Sat::Open(search) => search.at.counts,
+        }
+    }
+}
+
 impl OpenSearch {
     // What was made on the search so far.
     pub fn counts(&self) -> Counts

@@ -1,8 +1,5 @@
 // Drawn scripts of calls on one search: sittings of few moves, restarts, and calls that are refused, each
 // with an order and a policy of its own.
-ghost use Rattle.std.specs.Prelude.{◌≡◌};
-ghost use Rattle.planner.specs.Answers.{counted};
-
 use crate::alternating::Alternating;
 use crate::draw::Draw;
 use crate::highest::HighestFirst;
@@ -55,17 +52,6 @@ fn within(lists: &[u64], counts: Counts) -> bool {
         .saturating_mul(closings)
         .saturating_add(groups);
     closings <= most_closings(lists) && u64::from(counts.moves) <= most
-}
-
-// What was made on a search up to the end of a call.
-fn counts_of(sat: &Sat) -> Counts
-    ensures { result ≡ counted sat.now }
-{
-    match sat {
-        Sat::Plan(settled) => settled.counts(),
-        Sat::None(settled) => settled.counts(),
-        Sat::Open(search) => search.counts(),
-    }
 }
 
 impl<B: RuleBook> Script<'_, B> {
@@ -149,7 +135,7 @@ impl<B: RuleBook> Script<'_, B> {
                 Sat::Open(search)
             }
         };
-        if !within(self.lists, counts_of(&sat)) {
+        if !within(self.lists, sat.counts()) {
             count_one(&mut self.calls.wrong);
         }
         sat
