@@ -1,5 +1,5 @@
 // The rule ends across from each group as chains, so that what a group's loss calls for is found without a look at every rule.
-ghost use Rattle.std.specs.Prelude.{◌≡◌, ℕ, ◌+◌, ◌*◌, ◌<◌, ◌≤◌};
+ghost use Rattle.std.specs.Prelude.{◌≡◌, ℕ, ◌+◌, ◌*◌, ◌<◌, ◌≤◌, length};
 ghost use Rattle.propagation.specs.Wires.{Facing, Chained, Wired};
 
 use rules::book::RuleBook;
@@ -8,7 +8,8 @@ use rules::book::RuleBook;
 pub const CHAINS: usize = 8392;
 
 // The end numbered `e`, which has group `g` across, goes in front of the group's chain.
-pub fn chain<B: RuleBook>(book: &B, wires: &mut [u16; CHAINS], g: u16, e: u16)
+pub fn chain<B: RuleBook>(book: &B, wires: &mut [u16], g: u16, e: u16)
+    requires size { length wires.old ≡ 8392 }
     requires group { g < 200 }
     requires end { e < 8192 }
     requires faces { Facing (B.meaning book.now) g e }
@@ -21,7 +22,8 @@ pub fn chain<B: RuleBook>(book: &B, wires: &mut [u16; CHAINS], g: u16, e: u16)
 }
 
 // Both ends of a rule, where it has any.
-pub fn chain_rule<B: RuleBook>(book: &B, wires: &mut [u16; CHAINS], i: u32)
+pub fn chain_rule<B: RuleBook>(book: &B, wires: &mut [u16], i: u32)
+    requires size { length wires.old ≡ 8392 }
     requires groups { (B.meaning book.now).groups ≤ 200 }
     requires rule { i < 4096 }
     requires before { Chained (B.meaning book.now) (2 * i) wires.old }
@@ -35,7 +37,8 @@ pub fn chain_rule<B: RuleBook>(book: &B, wires: &mut [u16; CHAINS], i: u32)
 }
 
 // All rules of the book.
-pub fn wire<B: RuleBook>(book: &B, wires: &mut [u16; CHAINS])
+pub fn wire<B: RuleBook>(book: &B, wires: &mut [u16])
+    requires size { length wires.old ≡ 8392 }
     requires groups { (B.meaning book.now).groups ≤ 200 }
     requires rules { (B.meaning book.now).count ≤ 4096 }
     ensures { Wired (B.meaning book.now) wires.new }
