@@ -85,7 +85,7 @@ pub fn propagate_decision<B: RuleBook>(
     let places = 2 * book.count() as usize;
     // In an array, as in `propagate`, which starts otherwise and lays out its desk in the same lines: no function can hand a desk out.
     let mut remain = [0u64; 200];
-    let mut wires = [0u16; CHAINS];
+    let mut wires = [None; CHAINS];
     wire(book, &mut wires);
     bench.read(&mut remain[0..n]);
     let mut desk = Desk::over(

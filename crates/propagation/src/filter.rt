@@ -93,7 +93,7 @@ pub fn propagate<B: RuleBook>(
     let places = 2 * book.count() as usize;
     // The work goes on in an array: of a region in a desk the check does not learn what it is left as.
     let mut remain = [0u64; 200];
-    let mut wires = [0u16; CHAINS];
+    let mut wires = [None; CHAINS];
     wire(book, &mut wires);
     let mut desk = Desk::over(
         book,
