@@ -1,5 +1,5 @@
 -- What a write or a read at a place of the ring does to the list that waits.
-use Rattle.std.proofs.Common.{◌≡◌, ℕ, suc, ◌+◌, ◌-◌, ◌<◌, ◌≤◌, ◌⊎◌, List, [], ◌∷◌, ◌++◌, length, get_or, take, drop, set, min, Ok, Err, Result, sym, ap, ◌∙◌, inl, inr, arith, MatchResult}
+use Rattle.std.proofs.Common.{◌≡◌, ℕ, suc, ◌+◌, ◌-◌, ◌<◌, ◌≤◌, ◌⊎◌, List, [], ◌∷◌, ◌++◌, length, get_or, take, drop, set, min, sym, ap, ◌∙◌, inl, inr, arith}
 use lib.Seq.{take-set-lt}
 use Rattle.std.proofs.lemmas.List.{append-nil, append_assoc, length-take, length-drop, length-append, take_all, drop_all, take-append-le, take-set-le, take_more, take_more_set, drop-set-lt, drop-set-add, drop_more, set-append_left, set-append_right, nil_from_length}
 use Rattle.propagation.specs.Waiting.{waiting}
@@ -79,11 +79,6 @@ pop_line ps h s l k d hl st hn ct =
     let e3 : turned ps (s + 1) ≡ (drop (s + 1) ps ++ take s ps) ++ (get_or ps s d ∷ []) = ap (λ r. drop (s + 1) ps ++ r) (take_more ps s d hs) ∙ sym (append_assoc (drop (s + 1) ps) (take s ps) (get_or ps s d ∷ [])) in
     let e4 : take (k - 1) (turned ps (s + 1)) ≡ take (k - 1) (drop (s + 1) ps ++ take s ps) = ap (take (k - 1)) e3 ∙ take-append-le (k - 1) _ _ m in
     e1 ∙ ap (take k) e2 ∙ ap (λ j. take j (get_or ps s d ∷ (drop (s + 1) ps ++ take s ps))) k1 ∙ ap (λ r. get_or ps s d ∷ r) (sym e4)
-
--- a goal from both sides of what `push` answers
-pub either_way : {X E : Type 0} {G : Type 0} (r : Result X E) {P : X → Type 0} {Q : E → Type 0} → MatchResult r P Q → ((x : X) → P x → G) → ((e : E) → Q e → G) → G
-either_way (Ok x) h f k = f x h
-either_way (Err e) h f k = k e h
 
 pub line_length : {X : Type 0} (ps : List X) (h l : ℕ) → length (waiting ps h l) ≡ min l (length ps)
 line_length ps h l = simp (length-take, length-append, length-drop) (omega arith)
