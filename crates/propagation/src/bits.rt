@@ -1,14 +1,8 @@
 // Sets of channels as 64-bit numbers.
-ghost use Rattle.std.specs.Prelude.{◌≡◌, ℕ, ◌<◌, ◌≤◌, true, false, not, ◌&&◌, ◌==◌};
+ghost use Rattle.std.specs.Prelude.{◌≡◌, ℕ, ◌<◌, ◌≤◌, true, not, ◌&&◌, ◌==◌};
 ghost use Rattle.rules.specs.Channels.{has};
 
-// Whether the set has the channel.
-pub fn holds(set: u64, c: u8) -> bool
-    requires { c < 64 }
-    ensures { result ≡ has set c }
-{
-    (set >> c) % 2 == 1
-}
+use rules::channels::has_channel;
 
 // The set without the channel.
 pub fn without(set: u64, c: u8) -> u64
@@ -17,7 +11,11 @@ pub fn without(set: u64, c: u8) -> u64
     ensures fewer { has set c ≡ true → result < set }
     ensures bits { (j : ℕ) → has result j ≡ (has set j && not (j == c)) }
 {
-    if holds(set, c) { set - (1 << c) } else { set }
+    if has_channel(set, c) {
+        set - (1 << c)
+    } else {
+        set
+    }
 }
 
 // The lowest channel of a set that has one.
