@@ -1,6 +1,8 @@
 // Sets of channels as 64-bit numbers.
 ghost use Rattle.std.specs.Prelude.{◌≡◌, ℕ, ◌<◌, ◌≤◌, true, not, ◌&&◌, ◌==◌};
+ghost use Rattle.std.specs.Iterator.{at_most};
 ghost use Rattle.rules.specs.Channels.{has};
+ghost use Rattle.propagation.specs.Takings.{TakesOne};
 
 use rules::channels::has_channel;
 
@@ -25,4 +27,25 @@ pub fn lowest(set: u64) -> u8
     ensures there { has set result ≡ true }
 {
     set.trailing_zeros() as u8
+}
+
+// The channels of a set, the lowest first. A range of 64 numbers would look at those too that are not there.
+#[derive(Drop)]
+pub struct Channels(pub u64);
+
+impl Iterator for Channels {
+    type Item = u8;
+
+    ghost next_gives = { λ s r t. TakesOne s.0 r t.0 };
+
+    ghost remaining = { λ s. at_most s.0 };
+
+    fn next(&mut self) -> Option<u8> {
+        if self.0 == 0 {
+            return None;
+        }
+        let c = lowest(self.0);
+        self.0 = without(self.0, c);
+        Some(c)
+    }
 }
