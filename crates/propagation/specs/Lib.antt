@@ -9,3 +9,4 @@ pub mod Desks
 pub mod Bases
 pub mod Calms
 pub mod Filtered
+pub mod Takings
