@@ -3,9 +3,10 @@ ghost use Rattle.std.specs.Prelude.{◌≡◌, ℕ, ◌+◌, ◌*◌, ◌<◌, �
 ghost use Rattle.branching.specs.Channels.{Open};
 ghost use Rattle.model.specs.Words.{branch_of, base_of, recorded};
 ghost use Rattle.propagation.specs.Filtered.{Lives, Dies};
+ghost use Rattle.propagation.specs.Benches.{Roomy, Beyond};
 ghost use Rattle.search.specs.Counts.{Counted};
 ghost use Rattle.search.specs.Regions.{SameRegions};
-ghost use Rattle.search.specs.Turns.{state_of, Fit, DueAt, DeadTurn, AliveTurn, Beyond, KeptWords, Roomy, Fresh, Turned};
+ghost use Rattle.search.specs.Turns.{state_of, Fit, DueAt, DeadTurn, AliveTurn, KeptWords, Fresh, Turned};
 
 use crate::held::Progress;
 use crate::moves::{close, decide, restart, some_wide};
