@@ -25,7 +25,7 @@ impl Order for HighestFirst {
 
     // As fewest first answers, from the other end.
     fn channel(&mut self, domains: &[u64], group: u16) -> Option<u8> {
-        let channels = *domains.get(group as usize)?;
+        let channels = *domains.get(usize::from(group))?;
         if channels == 0 {
             return None;
         }
