@@ -45,7 +45,7 @@ impl Store {
         })
     }
 
-    // The numbers of lists, of gaps and of tables, as a book takes them.
+    // The numbers of lists, of gaps and of tables, as a book takes them. There are few, so none is cut short.
     pub fn loaded(&self) -> Loaded
         ensures { result ≡ numbers self.now }
     {

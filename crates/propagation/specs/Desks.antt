@@ -29,7 +29,6 @@ pub record Fitted {B : Type 0} (m : Meaning) (d : Desk B) : Type 0 where
   pub wired : Wired m d.wires.now
   pub groups : length d.domains.now ≡ m.groups
   pub rules : d.line.rules ≡ m.count
-  pub grouped : AllByRecursion (Grouped m.groups) (base_of d.base.now)
   pub room : length d.domains.now ≤ size d.settled
 
 -- The desk is in order.
@@ -49,5 +48,6 @@ pub record Step {B : Type 0} (m : Meaning) (d d' : Desk B) : Type 0 where
 -- The desk is laid out: nothing waits.
 pub record Laid {B : Type 0} (m : Meaning) (d : Desk B) : Type 0 where
   pub fits : Fitted m d
+  pub grouped : AllByRecursion (Grouped m.groups) (base_of d.base.now)
   pub no_ends : queued d.line.ends ≡ []
   pub no_settled : queued d.settled ≡ []

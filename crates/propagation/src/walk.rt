@@ -7,7 +7,7 @@ ghost use Rattle.model.specs.Words.{base_of};
 ghost use Rattle.propagation.specs.Supports.{Inside};
 ghost use Rattle.propagation.specs.Settling.{Emptied};
 ghost use Rattle.propagation.specs.Desks.{SameDesk, Held, Step};
-ghost use Rattle.propagation.specs.Bases.{Good, Spared};
+ghost use Rattle.propagation.specs.Bases.{Grouped, Good, Spared};
 
 use super::bench::Dead;
 use super::desk::Desk;
@@ -25,6 +25,7 @@ impl<'d, B: RuleBook> Desk<'d, B> {
     // Looks at every nogood that is not spared.
     pub fn heed_all(&mut self, just: Option<u32>) -> Result<(), Dead>
         requires held { Held (B.meaning self.old.book.now) self.old }
+        requires grouped { AllByRecursion (Grouped (B.meaning self.old.book.now).groups) (base_of self.old.base.now) }
         requires others { AllByRecursion (λ n. Spared just n → Good self.old.domains.now (queued self.old.settled) n) (base_of self.old.base.now) }
         ensures same { SameDesk self.old self.new }
         ensures within { (k : Family) → AllByRecursion (Heeds k) (base_of self.old.base.now) → Inside k (family self.old.domains.now) → Inside k (family self.new.domains.now) }

@@ -4,7 +4,8 @@ ghost use Rattle.propagation.specs.Wires.{Facing, Chained, Wired};
 
 use rules::book::RuleBook;
 
-// The places of the chains: one for each of 8192 ends, and one for each of 200 groups. They lie in an array, since nothing here has a heap.
+// The places of the chains: one for each of 8192 ends, and one for each of 200 groups. They lie in an array, since nothing here has a heap;
+// the functions below take a slice of that length, so that a part of a longer region serves as well.
 pub const CHAINS: usize = 8392;
 
 // The end numbered `e`, which has group `g` across, goes in front of the group's chain.

@@ -22,7 +22,7 @@ look-requires-clause-grouped g c =
     let e : all ≡ done ++ part ∷ rest = i.done.1 ∙ ap (λ (x : List (List ℕ)). done ++ x) first in
     let h = c.requires.held in
     let size : m.groups ≡ length c.loop-nogood.self.domains.now = sym i.held.fits.groups in
-    subst (λ (n : ℕ). Grouped n part) size (all_mid (Grouped m.groups) all done part rest e h.fits.grouped)
+    subst (λ (n : ℕ). Grouped n part) size (all_mid (Grouped m.groups) all done part rest e c.requires.grouped)
 
 pub returns-in_err-look-clause-within : goal.returns-in_err-look-clause-within
 returns-in_err-look-clause-within g c =

@@ -1,4 +1,4 @@
-use Rattle.std.proofs.Common.{length, ◌∙◌, refl, inl, inr, arith}
+use Rattle.std.proofs.Common.{length, refl, inl, inr, arith}
 use Rattle.propagation.proofs.Lines.{Next, push_line, line_length}
 use Rattle.propagation.proofs.ring.Ring.push.Goals as goal
 use Rattle.propagation.proofs.ring.Ring.push.Goals.{then-self-room, else-self-room}
@@ -6,7 +6,7 @@ use Rattle.propagation.proofs.ring.Ring.push.Goals.{then-self-room, else-self-ro
 pub returns-then-self-n-clause-line : goal.returns-then-self-n-clause-line
 returns-then-self-n-clause-line g c =
     let r = c.args.self.now in
-    (refl, line_length r.places.now r.head r.len r.fits ∙ c.if-self-n.true, refl)
+    (refl, omega (arith, line_length r.places.now r.head r.len r.fits, c.if-self-n.true), refl)
 
 pub returns-clause-line : goal.returns-clause-line
 returns-clause-line g c =
