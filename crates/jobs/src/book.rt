@@ -10,7 +10,7 @@ use rules::gap::{GapBook, GapEntry};
 use rules::joined::Joined;
 use rules::table::{TableBook, TableEntry};
 
-// The first `n` entries, or all where there are fewer.
+// The first `n` entries, or all where there are fewer: a caller may lend more places than a load filled.
 fn front<'a, T: Copy>(entries: &'a [T], n: u16) -> &'a [T]
     ensures { result.now ≡ take n entries.now }
 {

@@ -66,7 +66,7 @@ fn write_item(out: &mut Vec<u8>, src: &[u8], item: Item) -> Result<(), AllocErro
     }
 }
 
-// How many of the items are groups.
+// How many of the items are groups. (This and the next differ in a pattern, which is no argument.)
 fn count_groups(items: &[Item]) -> usize
     ensures { result ≡ count_by is_group items.now }
 {
@@ -123,7 +123,7 @@ fn vet_item(src: &[u8], at: usize, item: Item) -> Result<(), WriteFault>
 fn vet(src: &[u8], items: &[Item]) -> Result<(), WriteFault>
     ensures { MatchResult result (λ _. Flawless src.now items.now) (λ f. Unwritten src.now items.now f) }
 {
-    if items.len() > u16::MAX as usize {
+    if items.len() > usize::from(u16::MAX) {
         return Err(WriteFault::TooMany);
     }
     for (k, x) in items.iter().enumerate() {

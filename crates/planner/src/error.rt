@@ -47,6 +47,7 @@ impl From<(Refusal, OpenSearch)> for PlanError {
     }
 }
 
+// Two errors of the library, of an allocation and of one that hands back what it was to hold.
 impl From<AllocError> for PlanError {
     ghost from_gives = { λ _ r. r ≡ NoMemory };
 

@@ -13,6 +13,7 @@ use rules::book::RuleBook;
 
 // A book with its chains and the base, what remains of the lists, and the two lines of what waits to be looked at.
 // That it is in order is a clause (`Held`) and no ghost field: that every group keeps something is a part of it, and ends with `Dead`.
+// That it fits its book is none either: a field that names what the book stands for would make the type take one argument more.
 #[derive(Drop)]
 pub struct Desk<'d, B: RuleBook> {
     pub book: &'d B,
@@ -24,7 +25,8 @@ pub struct Desk<'d, B: RuleBook> {
 }
 
 impl<'d, B: RuleBook> Desk<'d, B> {
-    // A desk over regions of the sizes needed, on which nothing waits.
+    // A desk over regions of the sizes needed, on which nothing waits. The regions come one by one: of a bench that lies in a desk the check
+    // does not learn what it is left as.
     pub fn over(
         book: &'d B,
         wires: &'d [Option<u16>],

@@ -14,6 +14,7 @@ pub fn number(e: RuleEnd) -> u32
     2 * e.rule + u32::from(e.second)
 }
 
+// Marks are bits of words that are lent, since nothing here has a heap.
 pub fn is_marked(marks: &[u32], e: u32) -> bool
     requires { (e < 8192) × (length marks.now ≡ 256) }
     ensures { result ≡ marked marks.now e }

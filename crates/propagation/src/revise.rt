@@ -11,7 +11,7 @@ use super::records::RuleEnd;
 use super::support::kept_at;
 use rules::book::RuleBook;
 
-// The group at the end, and the one across.
+// The group at the end, and the one across. The flag says which end it is.
 pub fn turned(second: bool, e: (u16, u16)) -> (u16, u16)
     ensures here { result.0 ≡ near second e }
     ensures there { result.1 ≡ far second e }

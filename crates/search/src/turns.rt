@@ -69,7 +69,7 @@ fn is_due<P: RestartPolicy>(policy: &P, at: &Progress, branch: &[u32], base: &[u
     policy.cutoff() <= at.since && has_space(at, branch, base)
 }
 
-// A turn where every group keeps a channel.
+// A turn where every group keeps a channel. Branch and base are lent apart, since `is_due` only reads them.
 fn turn_alive<O: Order, P: RestartPolicy>(
     order: &mut O,
     policy: &mut P,
@@ -145,7 +145,7 @@ fn refresh<B: RuleBook>(
     }
 }
 
-// One turn, with `left` moves to go, after the last move that was made.
+// One turn, with `left` moves to go, after the last move that was made. Lists and book, order and policy come apart, as in `sitting`.
 pub(crate) fn turn<B: RuleBook, O: Order, P: RestartPolicy>(
     last: Option<Move>,
     lists: &[u64],

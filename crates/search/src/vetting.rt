@@ -84,7 +84,7 @@ fn stays_free(free: u64, decision: Decision) -> u64
     }
 }
 
-// Makes the decision where its assignment is listed and free: `free` has the channels of each group that are.
+// Makes the decision where its assignment is listed and free, and answers whether it is: `free` has the channels of each group that are.
 fn admit(free: &mut [u64], decision: Decision) -> bool
     ensures verdict { (lists : List ℕ) (ds : List Decided) → length lists ≡ length free.old → FreeFor lists free.old ds → result ≡ (listed? lists (assigned (said decision)) && free? (assigned (said decision)) ds) }
     ensures after { result ≡ true → (lists : List ℕ) (ds : List Decided) → length lists ≡ length free.old → FreeFor lists free.old ds → FreeFor lists free.new (said decision ∷ ds) }
@@ -104,7 +104,7 @@ fn branch_sound(lists: &[u64], branch: &[u32]) -> bool
     requires few { length lists.now ≤ 200 }
     ensures { result ≡ branch? lists.now (branch_of branch.now (length branch.now)) }
 {
-    // An array, since nothing here has a heap.
+    // An array, since nothing here has a heap. A `for`, here and in `base_sound`: with `all` the proof does not close.
     let mut room = [0u64; 200];
     let free = &mut room[..lists.len()];
     free.copy_from_slice(lists);

@@ -30,7 +30,7 @@ fn bytes_of(heap: Global, lists: &[u64], gaps: &[Gap]) -> Result<Vec<u8>, AllocE
     job.bytes(heap)
 }
 
-// The words of a base before the first nogood of no assignments.
+// The words of a base before the first nogood of no assignments. Read here apart: what is tested shares no code with what tests it.
 fn used_words(base: &[u32]) -> &[u32]
     ensures { result.now ≡ take (length result.now) base.now }
 {

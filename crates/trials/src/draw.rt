@@ -49,7 +49,7 @@ impl Draw {
         Ok(things)
     }
 
-    // Two different groups of n.
+    // Two different groups of n. Its bounds are clauses, here and in the two that draw with it: a type for them would only be taken apart.
     fn pair(&mut self, n: u16) -> (u16, u16)
         requires low { 2 ≤ n }
         requires high { n ≤ 200 }

@@ -121,7 +121,7 @@ impl<B: RuleBook> Script<'_, B> {
         Ok(Sat::Open(next))
     }
 
-    // One call of the script. Where it is refused, the search goes on as it was.
+    // One call of the script. Where it is refused, the search goes on as it was. (A match: which of three methods is called depends on a number.)
     fn call(&mut self, search: OpenSearch) -> Sat {
         let answer = match self.draw.below(8) {
             0 | 1 => self.restart(search),
