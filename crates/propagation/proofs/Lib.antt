@@ -12,3 +12,4 @@ pub mod Filtering
 pub mod Fronts
 pub mod Deciding
 pub mod Wiring
+pub mod Indexing

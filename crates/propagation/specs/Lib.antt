@@ -7,5 +7,6 @@ pub mod Supports
 pub mod Wires
 pub mod Desks
 pub mod Bases
+pub mod Indexed
 pub mod Calms
 pub mod Filtered

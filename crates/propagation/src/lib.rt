@@ -8,6 +8,7 @@ pub mod decision;
 pub mod desk;
 pub mod ends;
 pub mod filter;
+pub mod index;
 pub mod line;
 pub mod nogood;
 pub mod records;
