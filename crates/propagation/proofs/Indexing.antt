@@ -1,7 +1,7 @@
 -- Chains of numbers made number by number, and the places of a base. Assumes nothing.
 use Rattle.std.proofs.Common.{◌≡◌, ℕ, zero, suc, ◌+◌, ◌-◌, ◌/◌, ◌<◌, ◌≤◌, ◌≢◌, ◌⊎◌, List, [], ◌∷◌, ◌++◌, length, get_or, set, take, drop, replicate, Option, Some, None, IfSome, IsSomeAnd, sym, refl, ap, ◌∙◌, subst, inl, inr, append_assoc, arith, length-append}
 use Rattle.std.specs.List.{AllByRecursion}
-use Rattle.std.proofs.lemmas.Bool.{cases_eq}
+use Rattle.std.proofs.lemmas.Bool.{cases_eq, cases_lt}
 use Rattle.std.proofs.lemmas.Option.{IfSome_then}
 use Rattle.std.proofs.ByRecursion.{All-get_or}
 use Rattle.std.proofs.lemmas.List.{get_or-set_same, get_or-set_other, get_or-append-add, get_or_append_left, length-take-le, take-append-drop, take_at, drop_at}
@@ -336,3 +336,63 @@ all_met P v base a met = go [] base refl a
     go : (done rest : List (List ℕ)) → base ≡ done ++ rest → AllByRecursion (λ n. AllByRecursion (λ x. x ≢ v) n → P n) rest → AllByRecursion P rest
     go done [] e b = tt
     go done (n ∷ rest) e b = (one done n rest e b.0, go (done ++ n ∷ []) rest (e ∙ sym (append_assoc done (n ∷ []) rest)) b.1)
+
+-- how much of a chain is left at most
+abbrev pub left : Option ℕ → ℕ
+left None = 0
+left (Some e) = e + 1
+
+pub left_falls : (Q : ℕ → Type 0) (o : Option ℕ) (p : ℕ) → IfSome o (λ e. (e < p) × Q e) → left o < p + 1
+left_falls Q None p h = omega arith
+left_falls Q (Some e) p h = omega (arith, h.0)
+
+-- what is in a chain is not past where the chain goes on
+pub not_past : (o : Option ℕ) (p : ℕ) → IsSomeAnd o (λ e. p ≤ e) → IfSome o (λ e. e < p) → ⊥
+not_past None p h l = h
+not_past (Some e) p h l = omega arith
+
+pub place_below : (ws : List ℕ) (base : List (List ℕ)) (s v p : ℕ) → ws ≡ recorded base → Stands base s v p → p < length ws
+place_below ws base s v p whole t = let r = room_there ws base s t.nogood whole t.starts in omega (arith, t.there, t.place)
+
+-- where a chain ends
+pub at_end_all : (Q : ℕ → Type 0) (o : Option ℕ) → ((x : ℕ) → o ≡ Some x → ⊥) → IfSome o Q
+at_end_all Q None h = tt
+at_end_all Q (Some x) h = absurd (h x refl)
+
+-- along the chain of an assignment in an index
+module _ (ws : List ℕ) (x : Index) (h : Knows ws x) (v : ℕ) where
+  abbrev Here : ℕ → Type 0
+  Here = Below (At (base_of ws)) (length ws) v
+
+  put_there : (s p : ℕ) → Stands (base_of ws) s v p → Here p
+  put_there s p t = ((s, t), place_below ws (base_of ws) s v p h.whole t)
+
+  pub chain_first : (o : Option ℕ) → o ≡ get_or x.heads v None → IfSome o (Below (At (base_of ws)) (length ws) v)
+  chain_first o e = subst (λ (z : Option ℕ). IfSome z Here) (sym e) (h.indexed.chains.head v)
+
+  pub none_past : (o : Option ℕ) → o ≡ get_or x.heads v None → (s p : ℕ) → Stands (base_of ws) s v p → IfSome o (λ e. e < p) → ⊥
+  none_past o e s p t l = not_past o p (subst (λ (z : Option ℕ). IsSomeAnd z (λ y. p ≤ y)) (sym e) (h.indexed.chains.last v p (put_there s p t))) l
+
+  module _ (p : ℕ) (here : Below (At (base_of ws)) (length ws) v p) where
+    pub stands_here : Stands (base_of ws) (get_or x.starts p 0) v p
+    stands_here = h.indexed.starts v p here.1 here.0
+
+    module _ (o : Option ℕ) (e : o ≡ get_or x.links p None) where
+      pub chain_next : IfSome o (λ y. (y < p) × Below (At (base_of ws)) (length ws) v y)
+      chain_next = subst (λ (z : Option ℕ). IfSome z (λ y. (y < p) × Here y)) (sym e) (h.indexed.chains.down v p here)
+
+      pub none_between : (s q : ℕ) → Stands (base_of ws) s v q → q < p → IfSome o (λ y. y < q) → ⊥
+      none_between s q t b l = not_past o q (subst (λ (z : Option ℕ). IsSomeAnd z (λ y. q ≤ y)) (sym e) (h.indexed.chains.next v p q here (put_there s q t) b)) l
+
+-- the nogoods past a place are met, once that of the place is
+pub past_more : (P : List ℕ → Type 0) (ws : List ℕ) (x : Index) (h : Knows ws x) (v p : ℕ) (here : Below (At (base_of ws)) (length ws) v p) (o : Option ℕ) → o ≡ get_or x.links p None
+    → P (stands_here ws x h v p here).nogood → ((s q : ℕ) (t : Stands (base_of ws) s v q) → p < q → P t.nogood) → (s q : ℕ) (t : Stands (base_of ws) s v q) → IfSome o (λ e. e < q) → P t.nogood
+past_more P ws x h v p here o e good past s q t l = elim (cases_eq q p) [
+  | inl z ↦ same s q t z
+  | inr d ↦ elim (cases_lt q p) [ inl b ↦ absurd (none_between ws x h v p here o e s q t b l) | inr b ↦ past s q t (omega arith) ]
+]
+  where
+    same : (s q : ℕ) (t : Stands (base_of ws) s v q) → q ≡ p → P t.nogood
+    same s q t z =
+        let r = stands_here ws x h v p here in
+        subst P (same_nogood r.starts.before r.nogood r.starts.after t.starts.before t.nogood t.starts.after r.nth t.nth (sym r.starts.parts ∙ t.starts.parts) (omega (arith, r.starts.start, t.starts.start, r.place, t.place)) r.there t.there).0 good

@@ -12,12 +12,14 @@ use Rattle.propagation.specs.Supports.{Supported, Inside}
 use Rattle.propagation.specs.Wires.{Wired}
 use Rattle.propagation.specs.Settling.{noted, Settled}
 use Rattle.propagation.specs.Bases.{Grouped}
+use Rattle.propagation.specs.Indexed.{Knows}
 
--- The later desk has the book, the chains, the base and the regions of the earlier one.
+-- The later desk has the book, the chains, the base, the index and the regions of the earlier one.
 pub record SameDesk {B : Type 0} (d d' : Desk B) : Type 0 where
   pub book : d'.book ≡ d.book
   pub wires : d'.wires ≡ d.wires
   pub base : d'.base ≡ d.base
+  pub index : d'.index ≡ d.index
   pub domains : d'.domains.ghost_name ≡ d.domains.ghost_name
   pub groups : length d'.domains.now ≡ length d.domains.now
   pub line : SameLine d.line d'.line
@@ -30,6 +32,7 @@ pub record Held {B : Type 0} (m : Meaning) (d : Desk B) : Type 0 where
   pub groups : length d.domains.now ≡ m.groups
   pub rules : d.line.rules ≡ m.count
   pub grouped : AllByRecursion (Grouped m.groups) (base_of d.base.now)
+  pub known : Knows d.base.now d.index.now
   pub settled : Settled d.domains.now (queued d.settled)
   pub room : length d.domains.now ≤ size d.settled
   pub alive : Alive d.domains.now (family d.domains.now)
@@ -48,6 +51,7 @@ pub record Laid {B : Type 0} (m : Meaning) (d : Desk B) : Type 0 where
   pub groups : length d.domains.now ≡ m.groups
   pub rules : d.line.rules ≡ m.count
   pub grouped : AllByRecursion (Grouped m.groups) (base_of d.base.now)
+  pub known : Knows d.base.now d.index.now
   pub room : length d.domains.now ≤ size d.settled
   pub no_ends : queued d.line.ends ≡ []
   pub no_settled : queued d.settled ≡ []

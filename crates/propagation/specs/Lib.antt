@@ -8,5 +8,6 @@ pub mod Wires
 pub mod Desks
 pub mod Bases
 pub mod Indexed
+pub mod Links
 pub mod Calms
 pub mod Filtered

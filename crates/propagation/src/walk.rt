@@ -1,5 +1,5 @@
 // The walk over the base.
-ghost use Rattle.std.specs.Prelude.{◌≡◌, true, OnOk, OnErr};
+ghost use Rattle.std.specs.Prelude.{OnOk, OnErr};
 ghost use Rattle.std.specs.List.{AllByRecursion};
 ghost use Rattle.propagation.specs.Waiting.{queued};
 ghost use Rattle.model.specs.Remains.{Family, family, Heeds};
@@ -7,24 +7,16 @@ ghost use Rattle.model.specs.Words.{base_of};
 ghost use Rattle.propagation.specs.Supports.{Inside};
 ghost use Rattle.propagation.specs.Settling.{Emptied};
 ghost use Rattle.propagation.specs.Desks.{SameDesk, Held, Step};
-ghost use Rattle.propagation.specs.Bases.{Good, Spared};
+ghost use Rattle.propagation.specs.Bases.{Good};
 
 use super::bench::Dead;
 use super::desk::Desk;
 use rules::book::RuleBook;
 
-// Whether the nogood need not be looked at.
-pub fn spared(just: Option<u32>, nogood: &[u32]) -> bool
-    ensures { result ≡ true → Spared just nogood.now }
-{
-    just.is_some_and(|v| !nogood.contains(&v))
-}
-
 impl<'d, B: RuleBook> Desk<'d, B> {
-    // Looks at every nogood that is not spared.
-    pub fn heed_all(&mut self, just: Option<u32>) -> Result<(), Dead>
+    // Looks at every nogood.
+    pub fn heed_all(&mut self) -> Result<(), Dead>
         requires held { Held (B.meaning self.old.book.now) self.old }
-        requires others { AllByRecursion (λ n. Spared just n → Good self.old.domains.now (queued self.old.settled) n) (base_of self.old.base.now) }
         ensures same { SameDesk self.old self.new }
         ensures within { (k : Family) → AllByRecursion (Heeds k) (base_of self.old.base.now) → Inside k (family self.old.domains.now) → Inside k (family self.new.domains.now) }
         ensures dead { OnErr result (Emptied self.new.domains.now) }
@@ -35,9 +27,7 @@ impl<'d, B: RuleBook> Desk<'d, B> {
         let mut base = self.base;
         while let Some((&n, words)) = base.split_first() {
             let (nogood, rest) = words.split_at(words.len().min(n as usize));
-            if !spared(just, nogood) {
-                self.look(nogood)?;
-            }
+            self.look(nogood)?;
             base = rest;
         }
         Ok(())

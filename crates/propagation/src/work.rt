@@ -22,7 +22,7 @@ impl<'d, B: RuleBook> Desk<'d, B> {
         ensures turned { IfOk result (Turned (B.meaning self.old.book.now) self.old self.new) }
     {
         if let Some(a) = self.settled.pop() {
-            self.heed_all(Some(u32::from(a)))?;
+            self.heed(u32::from(a))?;
             return Ok(true);
         }
         if let Some(e) = self.line.take() {

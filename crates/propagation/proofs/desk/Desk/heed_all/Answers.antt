@@ -5,7 +5,7 @@ use Rattle.propagation.specs.Waiting.{queued}
 use Rattle.model.specs.Remains.{Heeds}
 use Rattle.model.specs.Words.{base_of}
 use Rattle.propagation.specs.Desks.{Held, Step}
-use Rattle.propagation.specs.Bases.{Good, Grouped, Spared}
+use Rattle.propagation.specs.Bases.{Good, Grouped}
 use Rattle.propagation.proofs.Steps.{same_then, step_then}
 use Rattle.propagation.proofs.Walking.{all_mid, base_first, good_step, parts_more}
 use Rattle.propagation.proofs.desk.Desk.heed_all.Goals as goal
@@ -38,8 +38,8 @@ returns-in_err-look-clause-within g c =
     let e : all ≡ done ++ part ∷ rest = i.done.1 ∙ ap (λ (x : List (List ℕ)). done ++ x) first in
     λ k h ins. c.look.ensures.within k (all_mid (Heeds k) all done part rest e h) (i.within k h ins)
 
-pub loop-n-preserved-in_ok-look : goal.loop-n-preserved-in_ok-look
-loop-n-preserved-in_ok-look g c =
+pub loop-n-preserved : goal.loop-n-preserved
+loop-n-preserved g c =
     let m = g.B.RuleBook.meaning c.args.self.now.book.now in
     let i = c.loop-n.invariant in
     let all = base_of c.args.self.now.base.now in
@@ -65,27 +65,4 @@ loop-n-preserved-in_ok-look g c =
         All-push (Good d2.domains.now (queued d2.settled)) done part
             (All-weaker (Good d1.domains.now (queued d1.settled)) (Good d2.domains.now (queued d2.settled)) (good_step m d1 d2 step) done i.done.2) (λ _. c.in_ok-look.ensures.heeds),
       );
-      others = All-weaker (λ n. Spared c.args.just n → Good d1.domains.now (queued d1.settled) n) (λ n. Spared c.args.just n → Good d2.domains.now (queued d2.settled) n) (λ n h p. good_step m d1 d2 step n (h p)) all i.others;
-    }
-
-pub loop-n-preserved : goal.loop-n-preserved
-loop-n-preserved g c =
-    let m = g.B.RuleBook.meaning c.args.self.now.book.now in
-    let i = c.loop-n.invariant in
-    let all = base_of c.args.self.now.base.now in
-    let part = c.split_at.result.0.now in
-    let rest = base_of c.split_at.result.1.now in
-    let first = base_first c.loop-n.base.now c.in-Some.words.now part c.split_at.result.1.now c.in-Some.n c.min.result
-    (c.in-Some.ensures.cases.0 ∙ ap (λ (x : ℕ). x ∷ c.in-Some.words.now) c.in-Some.n-is) (c.min.ensures ∙ ap (min (length c.in-Some.words.now)) c.in-Some.n-is) c.split_at.ensures.front c.split_at.ensures.back in
-    let done = i.done.0 in
-    let e : all ≡ done ++ part ∷ rest = i.done.1 ∙ ap (λ (x : List (List ℕ)). done ++ x) first in
-    let d1 = c.loop-n.self in
-    let good = all_mid (λ n. Spared c.args.just n → Good d1.domains.now (queued d1.settled) n) all done part rest e i.others (c.spared.ensures c.if-not-spared.false) in
-    record {
-      same = i.same;
-      held = i.held;
-      step = i.step;
-      within = i.within;
-      done = (done ++ part ∷ [], parts_more all done part rest e, All-push (Good d1.domains.now (queued d1.settled)) done part i.done.2 good);
-      others = i.others;
     }

@@ -48,6 +48,7 @@ returns-clause-held g c =
       groups = same ∙ h.groups;
       rules = c.queue_across.ensures.line.rules ∙ h.rules;
       grouped = h.grouped;
+      known = h.known;
       settled = shrink_settled ms x k c.requires.group c.requires.inside fits less some s s' h.settled noting;
       room = omega (arith, h.room, same, sized);
       alive = set_alive ms x k c.requires.group some h.alive;
