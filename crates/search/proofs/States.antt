@@ -94,6 +94,9 @@ module _ (p : Progress) (branch base base' : List ℕ) (l : p.base_used ≤ leng
       same_made _ _ _ _ _ _ _ _ _ _ _ _
       refl (ap base_of used_words_lem ∙ base_recorded (nogoods (state_of p branch base))) (plus_one p.counts.moves) refl (plus_one p.counts.restarts) refl
 
+  pub restarted_base : base_of (take (p.base_used + length (recorded (reduced (branch_of branch p.branch_len)))) base') ≡ nogoods (state_of p branch base)
+  restarted_base = ap base_of used_words_lem ∙ base_recorded (nogoods (state_of p branch base))
+
   pub restarted_words : take (p.base_used + length (recorded (reduced (branch_of branch p.branch_len)))) base'
       ≡ recorded (base_of (take (p.base_used + length (recorded (reduced (branch_of branch p.branch_len)))) base'))
   restarted_words =
