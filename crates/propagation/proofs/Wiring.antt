@@ -1,7 +1,8 @@
 -- Chains of rule ends, made end by end. Assumes nothing.
-use Rattle.std.proofs.Common.{◌≡◌, ℕ, zero, suc, ◌+◌, ◌-◌, ◌*◌, ◌/◌, ◌%◌, ◌<◌, ◌≤◌, Bool, true, false, eqb, List, length, get_or, set, replicate, Some, None, sym, refl, ap, ◌∙◌, subst, inl, inr, arith}
+use Rattle.std.proofs.Common.{◌≡◌, ℕ, zero, suc, ◌+◌, ◌*◌, ◌/◌, ◌%◌, ◌<◌, ◌≤◌, Bool, true, false, eqb, List, length, get_or, set, replicate, Option, Some, None, sym, refl, ap, ◌∙◌, subst, inl, inr, arith, IfSome, IsSomeAnd}
 use Rattle.std.proofs.lemmas.Bool.{cases_eq, cases_lt, eq-eqb, ne_eqb}
 use Rattle.std.proofs.lemmas.List.{get_or-set_same, get_or-set_other, length-set}
+use Rattle.std.proofs.lemmas.Option.{IfSome_then, MatchOption-from_none}
 use Rattle.rules.specs.Meanings.{Meaning, Lawful}
 use Rattle.propagation.specs.Waits.{one_if, at_end}
 use Rattle.propagation.specs.Supports.{far}
@@ -28,25 +29,25 @@ facing_below m law g n (i, s, x, p, e, f) = elim (cases_lt i m.count) [
     ends_below i k true l = omega arith
     ends_below i k false l = omega arith
 
-pub zeros : (n i : ℕ) → ◌≡◌ {A = ℕ} (get_or (replicate n 0) i 0) 0
-zeros zero i = refl
-zeros (suc n) zero = refl
-zeros (suc n) (suc i) = zeros n i
+pub nones : (n i : ℕ) → ◌≡◌ {A = Option ℕ} (get_or (replicate n None) i None) None
+nones zero i = refl
+nones (suc n) zero = refl
+nones (suc n) (suc i) = nones n i
 
 -- nothing is in the chains at first
-pub chained_none : (m : Meaning) (wires : List ℕ) → ((i : ℕ) → get_or wires i 0 ≡ 0) → Chained m 0 wires
+pub chained_none : (m : Meaning) (wires : List (Option ℕ)) → ((i : ℕ) → get_or wires i None ≡ None) → Chained m 0 wires
 chained_none m wires z = record {
   last = λ g n l. absurd (omega arith);
-  head = λ g h. absurd (let e = z (8192 + g) in omega arith);
+  head = λ g. MatchOption-from_none (get_or wires (8192 + g) None) (λ e. (e < 0) × Facing m g e) (z (8192 + g));
   next = λ g n j l. absurd (omega arith);
   down = λ g n l. absurd (omega arith);
 }
 
 -- an end that has no group across is passed over
-pub chained_skip : (m : Meaning) (k : ℕ) (wires : List ℕ) → ((g : ℕ) → Facing m g k → ⊥) → Chained m k wires → Chained m (k + 1) wires
+pub chained_skip : (m : Meaning) (k : ℕ) (wires : List (Option ℕ)) → ((g : ℕ) → Facing m g k → ⊥) → Chained m k wires → Chained m (k + 1) wires
 chained_skip m k wires none c = record {
   last = λ g n l f. c.last g n (below g n l f) f;
-  head = λ g h. let t = c.head g h in (omega (arith, t.0), t.1);
+  head = λ g. IfSome_then (get_or wires (8192 + g) None) (c.head g) (λ e t. (omega (arith, t.0), t.1));
   next = λ g n j l f. c.next g n j (below g n l f) f;
   down = λ g n l f. c.down g n (below g n l f) f;
 }
@@ -54,46 +55,50 @@ chained_skip m k wires none c = record {
     below : (g n : ℕ) → n < k + 1 → Facing m g n → n < k
     below g n l f = elim (cases_eq n k) [ inl q ↦ absurd (none g (subst (Facing m g) q f)) | inr d ↦ omega arith ]
 
-module _ (m : Meaning) (k g : ℕ) (wires : List ℕ) (size : length wires ≡ 8392) (small : g < 200) (low : k < 8192) (here : Facing m g k) (c : Chained m k wires) where
-  abbrev first : List ℕ
-  first = set wires k (get_or wires (8192 + g) 0)
+module _ (m : Meaning) (k g : ℕ) (wires : List (Option ℕ)) (size : length wires ≡ 8392) (small : g < 200) (low : k < 8192) (here : Facing m g k) (c : Chained m k wires) where
+  abbrev before : Option ℕ
+  before = get_or wires (8192 + g) None
 
-  abbrev chained : List ℕ
-  chained = set first (8192 + g) (k + 1)
+  abbrev first : List (Option ℕ)
+  first = set wires k before
 
-  at_group : get_or chained (8192 + g) 0 ≡ k + 1
-  at_group = get_or-set_same first (8192 + g) (k + 1) 0 (let z = length-set wires k (get_or wires (8192 + g) 0) in omega arith)
+  abbrev chained : List (Option ℕ)
+  chained = set first (8192 + g) (Some k)
 
-  at_other : (h : ℕ) → (h ≡ g → ⊥) → get_or chained (8192 + h) 0 ≡ get_or wires (8192 + h) 0
-  at_other h n = get_or-set_other first (8192 + g) (8192 + h) (k + 1) 0 (λ q. n (omega arith)) ∙ get_or-set_other wires k (8192 + h) (get_or wires (8192 + g) 0) 0 (λ q. omega arith)
+  at_group : get_or chained (8192 + g) None ≡ Some k
+  at_group = get_or-set_same first (8192 + g) (Some k) None (let z = length-set wires k before in omega arith)
 
-  at_end_same : get_or chained k 0 ≡ get_or wires (8192 + g) 0
-  at_end_same = get_or-set_other first (8192 + g) k (k + 1) 0 (λ q. omega arith) ∙ get_or-set_same wires k (get_or wires (8192 + g) 0) 0 (omega arith)
+  at_other : (h : ℕ) → (h ≡ g → ⊥) → get_or chained (8192 + h) None ≡ get_or wires (8192 + h) None
+  at_other h n = get_or-set_other first (8192 + g) (8192 + h) (Some k) None (λ q. n (omega arith)) ∙ get_or-set_other wires k (8192 + h) before None (λ q. omega arith)
 
-  at_end_other : (n : ℕ) → n < k → get_or chained n 0 ≡ get_or wires n 0
-  at_end_other n l = get_or-set_other first (8192 + g) n (k + 1) 0 (λ q. omega arith) ∙ get_or-set_other wires k n (get_or wires (8192 + g) 0) 0 (λ q. omega arith)
+  at_end_same : get_or chained k None ≡ before
+  at_end_same = get_or-set_other first (8192 + g) k (Some k) None (λ q. omega arith) ∙ get_or-set_same wires k before None (omega arith)
+
+  at_end_other : (n : ℕ) → n < k → get_or chained n None ≡ get_or wires n None
+  at_end_other n l = get_or-set_other first (8192 + g) n (Some k) None (λ q. omega arith) ∙ get_or-set_other wires k n before None (λ q. omega arith)
 
   pub chained_more : Chained m (k + 1) chained
   chained_more = record {
     last = λ h n l f. elim (cases_eq h g) [
-      | inl q ↦ (let e : get_or chained (8192 + h) 0 ≡ k + 1 = subst (λ (x : ℕ). get_or chained (8192 + x) 0 ≡ k + 1) (sym q) at_group in omega arith)
-      | inr d ↦ (let e = at_other h d in let b : n < k = other h n d l f in let z = c.last h n b f in omega arith)
+      | inl q ↦ subst (λ (x : ℕ). IsSomeAnd (get_or chained (8192 + x) None) (λ e. n ≤ e)) (sym q) (subst (λ (o : Option ℕ). IsSomeAnd o (λ e. n ≤ e)) (sym at_group) (omega arith))
+      | inr d ↦ subst (λ (o : Option ℕ). IsSomeAnd o (λ e. n ≤ e)) (sym (at_other h d)) (c.last h n (other h n d l f) f)
     ];
-    head = λ h p. elim (cases_eq h g) [
-      | inl q ↦ top h q
-      | inr d ↦ (let e = at_other h d in
-          let t = c.head h (omega arith) in
-          (omega (arith, t.0), subst (λ (x : ℕ). Facing m h (x - 1)) (sym e) t.1))
+    head = λ h. elim (cases_eq h g) [
+      | inl q ↦ subst (λ (x : ℕ). IfSome (get_or chained (8192 + x) None) (λ e. (e < k + 1) × Facing m x e)) (sym q)
+          (subst (λ (o : Option ℕ). IfSome o (λ e. (e < k + 1) × Facing m g e)) (sym at_group) (omega arith, here))
+      | inr d ↦ subst (λ (o : Option ℕ). IfSome o (λ e. (e < k + 1) × Facing m h e)) (sym (at_other h d))
+          (IfSome_then (get_or wires (8192 + h) None) (c.head h) (λ e t. (omega (arith, t.0), t.1)))
     ];
     next = λ h n j l f p f'. elim (cases_eq n k) [
-      | inl q ↦ (let e : get_or chained n 0 ≡ get_or wires (8192 + g) 0 = subst (λ (x : ℕ). get_or chained x 0 ≡ get_or wires (8192 + g) 0) (sym q) at_end_same in
-          let z = c.last g j (omega arith) (subst (λ (x : ℕ). Facing m x j) (same h n q f) f') in omega arith)
-      | inr d ↦ (let b : n < k = omega arith in let e = at_end_other n b in let z = c.next h n j b f p f' in omega arith)
+      | inl q ↦ subst (λ (x : ℕ). IsSomeAnd (get_or chained x None) (λ e. j ≤ e)) (sym q)
+          (subst (λ (o : Option ℕ). IsSomeAnd o (λ e. j ≤ e)) (sym at_end_same) (c.last g j (omega arith) (subst (λ (x : ℕ). Facing m x j) (same h n q f) f')))
+      | inr d ↦ (let b : n < k = omega arith in subst (λ (o : Option ℕ). IsSomeAnd o (λ e. j ≤ e)) (sym (at_end_other n b)) (c.next h n j b f p f'))
     ];
     down = λ h n l f. elim (cases_eq n k) [
-      | inl q ↦ back h n q f
-      | inr d ↦ (let b : n < k = omega arith in let e = at_end_other n b in let t = c.down h n b f in
-          (omega (arith, t.0), λ p. subst (λ (x : ℕ). Facing m h (x - 1)) (sym e) (t.1 (omega arith))))
+      | inl q ↦ subst (λ (x : ℕ). IfSome (get_or chained x None) (λ e. (e < x) × Facing m h e)) (sym q)
+          (subst (λ (o : Option ℕ). IfSome o (λ e. (e < k) × Facing m h e)) (sym at_end_same)
+          (subst (λ (x : ℕ). IfSome before (λ e. (e < k) × Facing m x e)) (sym (same h n q f)) (c.head g)))
+      | inr d ↦ (let b : n < k = omega arith in subst (λ (o : Option ℕ). IfSome o (λ e. (e < n) × Facing m h e)) (sym (at_end_other n b)) (c.down h n b f))
     ];
   }
     where
@@ -103,28 +108,14 @@ module _ (m : Meaning) (k g : ℕ) (wires : List ℕ) (size : length wires ≡ 8
       other : (h n : ℕ) → (h ≡ g → ⊥) → n < k + 1 → Facing m h n → n < k
       other h n d l f = elim (cases_eq n k) [ inl q ↦ absurd (d (same h n q f)) | inr e ↦ omega arith ]
 
-      top : (h : ℕ) → h ≡ g → (get_or chained (8192 + h) 0 ≤ k + 1) × Facing m h (get_or chained (8192 + h) 0 - 1)
-      top h q =
-          let e : get_or chained (8192 + h) 0 ≡ k + 1 = subst (λ (x : ℕ). get_or chained (8192 + x) 0 ≡ k + 1) (sym q) at_group in
-          let z : get_or chained (8192 + h) 0 - 1 ≡ k = omega arith in
-          (omega arith, subst (λ (x : ℕ). Facing m h x) (sym z) (subst (λ (x : ℕ). Facing m x k) (sym q) here))
-
-      back : (h n : ℕ) → n ≡ k → Facing m h n → (get_or chained n 0 ≤ n) × (0 < get_or chained n 0 → Facing m h (get_or chained n 0 - 1))
-      back h n q f =
-          let e : get_or chained n 0 ≡ get_or wires (8192 + g) 0 = subst (λ (x : ℕ). get_or chained x 0 ≡ get_or wires (8192 + g) 0) (sym q) at_end_same in (
-            elim (cases_eq (get_or wires (8192 + g) 0) 0) [ inl z ↦ omega arith | inr d ↦ (let t = c.head g (omega arith) in omega (arith, t.0)) ],
-            λ p. let t = c.head g (omega arith) in
-                subst (λ (x : ℕ). Facing m h (x - 1)) (sym e) (subst (λ (x : ℕ). Facing m x (get_or wires (8192 + g) 0 - 1)) (sym (same h n q f)) t.1),
-          )
-
 -- once all ends of the book are in
-pub chained_wired : (m : Meaning) → Lawful m → (k : ℕ) (wires : List ℕ) → length wires ≡ 8392 → m.groups ≤ 200 → m.count ≤ 4096 → k ≡ 2 * m.count → Chained m k wires → Wired m wires
+pub chained_wired : (m : Meaning) → Lawful m → (k : ℕ) (wires : List (Option ℕ)) → length wires ≡ 8392 → m.groups ≤ 200 → m.count ≤ 4096 → k ≡ 2 * m.count → Chained m k wires → Wired m wires
 chained_wired m law k wires size groups rules e c = record {
   size = size;
   groups = groups;
   rules = rules;
   last = λ g n f. c.last g n (below g n f) f;
-  head = λ g p. (c.head g p).1;
+  head = λ g. IfSome_then (get_or wires (8192 + g) None) (c.head g) (λ e t. t.1);
   next = λ g n j f. c.next g n j (below g n f) f;
   down = λ g n f. c.down g n (below g n f) f;
 }
@@ -145,3 +136,22 @@ number_end e = elim (cases_eq (e % 2) 1) [
   | inl q ↦ (let z = ap one_if (eq-eqb (e % 2) 1 q) in omega arith)
   | inr n ↦ (let z = ap one_if (ne_eqb (e % 2) 1 n) in omega arith)
 ]
+
+-- how much of a chain is left at most
+abbrev pub left : Option ℕ → ℕ
+left None = 0
+left (Some e) = e + 1
+
+pub left_below : (o p : Option ℕ) (e : ℕ) → o ≡ Some e → (F : ℕ → Type 0) → IfSome p (λ d. (d < e) × F d) → left p < left o
+left_below o None e q F h = subst (λ (x : Option ℕ). 0 < left x) (sym q) (omega arith)
+left_below o (Some d) e q F h = subst (λ (x : Option ℕ). d + 1 < left x) (sym q) (let z = h.0 in omega arith)
+
+-- no end is both before n and not
+pub above_below : (o : Option ℕ) (n : ℕ) → IsSomeAnd o (λ e. n ≤ e) → IfSome o (λ e. e < n) → ⊥
+above_below None n h l = h
+above_below (Some e) n h l = omega arith
+
+-- none is what no number is
+pub only_none : (o : Option ℕ) → ((x : ℕ) → o ≡ Some x → ⊥) → o ≡ None
+only_none None k = refl
+only_none (Some x) k = absurd (k x refl)

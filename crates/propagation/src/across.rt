@@ -22,8 +22,7 @@ impl<'d, B: RuleBook> Desk<'d, B> {
     {
         // Along the chain, which lies in an array, since nothing here has a heap. (The casts widen; of a `from` the proof would know less.)
         let mut next = self.wires[8192 + g as usize];
-        while next > 0 {
-            let e = next - 1;
+        while let Some(e) = next {
             self.line.add(RuleEnd {
                 rule: (e / 2) as u32,
                 second: e % 2 == 1,

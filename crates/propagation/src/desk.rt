@@ -18,7 +18,7 @@ use rules::book::RuleBook;
 #[derive(Drop)]
 pub struct Desk<'d, B: RuleBook> {
     pub book: &'d B,
-    pub wires: &'d [u16],
+    pub wires: &'d [Option<u16>],
     pub base: &'d [u32],
     pub index: &'d Index,
     pub domains: &'d mut [u64],
@@ -30,7 +30,7 @@ impl<'d, B: RuleBook> Desk<'d, B> {
     // A desk over regions of the sizes needed, on which nothing waits.
     pub fn over(
         book: &'d B,
-        wires: &'d [u16],
+        wires: &'d [Option<u16>],
         base: &'d [u32],
         index: &'d Index,
         domains: &'d mut [u64],

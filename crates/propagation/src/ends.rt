@@ -39,8 +39,8 @@ pub fn unmark(marks: &mut [u32], e: u32)
     marks[(e / 32) as usize] -= 1 << (e % 32);
 }
 
+// Puts an end in a line with its marks, unless it waits there. The push never fails, since there is a place for each end.
 // This and `draw` are functions beside the line's methods: in a method the line's facts would have to hold between the two writes.
-// Puts an end in a line with its marks, unless it waits there.
 pub fn put(ends: &mut Ring<RuleEnd>, marks: &mut [u32], rules: u32, e: RuleEnd)
     requires line { Line rules (queued ends.old) marks.old }
     requires space { Space rules (size ends.old) marks.old }
@@ -53,7 +53,7 @@ pub fn put(ends: &mut Ring<RuleEnd>, marks: &mut [u32], rules: u32, e: RuleEnd)
     let p = number(e);
     if !is_marked(marks, p) {
         mark(marks, p);
-        let _ = ends.push(e);
+        ends.push(e).unwrap();
     }
 }
 

@@ -13,7 +13,7 @@ use rules::book::RuleBook;
 // The chains of a book's rule ends, and the index of a base.
 #[derive(Drop)]
 pub struct Links {
-    pub wires: [u16; CHAINS],
+    pub wires: [Option<u16>; CHAINS],
     pub index: Index,
 }
 
@@ -24,7 +24,7 @@ impl Links {
         requires rules { (B.meaning book.now).count ≤ 4096 }
         ensures { Linked (B.meaning book.now) [] result }
     {
-        let mut wires = [0u16; CHAINS];
+        let mut wires = [None; CHAINS];
         wire(book, &mut wires);
         Links {
             wires,

@@ -1,18 +1,18 @@
 // A line of records over lent places.
-ghost use Rattle.std.specs.Prelude.{◌≡◌, ◌<◌, [], ◌∷◌, ◌++◌, length, MatchOption, MatchResult};
-ghost use Rattle.propagation.specs.Waiting.{queued, size};
+ghost use Rattle.std.specs.Prelude.{◌≡◌, ◌-◌, ◌<◌, ◌≤◌, [], ◌∷◌, ◌++◌, length, MatchOption, MatchResult};
 ghost use Rattle.rules.specs.declared.refusal.Refusal.TheVariants.{LineFull};
 
 use rules::refusal::Refusal;
 
 // A line over lent places: the oldest first, freed places used again.
-// The places are lent, so their number and the head and length are kept beside them.
-// Every state stands for a line: a head past the places counts as 0, a length past their number as that number.
+// The places are lent, so the head and the length are kept beside them. The head is one of the places, or 0 where there are none.
 #[derive(Drop)]
 pub struct Ring<'a, T> {
     places: &'a mut [T],
     head: usize,
     len: usize,
+    ghost inside: { head ≤ length places.now - 1 },
+    ghost fits: { len ≤ length places.now },
 }
 
 // The record that found no free place, given back.
@@ -31,6 +31,8 @@ impl<T: Drop> From<Full<T>> for Refusal {
 }
 
 impl<'a, T: Copy> Ring<'a, T> {
+    ghost use Rattle.propagation.specs.Waiting.{queued, size};
+
     pub fn over(places: &'a mut [T]) -> Ring<'a, T>
         ensures held { result.places.ghost_name ≡ places.entry.ghost_name }
         ensures sized { result.places.now ≡ places.old }
@@ -50,18 +52,16 @@ impl<'a, T: Copy> Ring<'a, T> {
         ensures line { MatchResult result (λ _. (length (queued self.old) < size self.old) × (queued self.new ≡ queued self.old ++ (x ∷ []))) (λ e. (e.record ≡ x) × (length (queued self.old) ≡ size self.old) × (self.new ≡ self.old)) }
     {
         let n = self.places.len();
-        if self.len >= n {
+        if self.len == n {
             return Err(Full { record: x });
         }
-        let start = if self.head < n { self.head } else { 0 };
-        let room = n - start;
+        let room = n - self.head;
         let at = if self.len < room {
-            start + self.len
+            self.head + self.len
         } else {
             self.len - room
         };
         self.places[at] = x;
-        self.head = start;
         self.len += 1;
         Ok(())
     }
@@ -70,7 +70,7 @@ impl<'a, T: Copy> Ring<'a, T> {
     pub fn len(&self) -> usize
         ensures { result ≡ length (queued self.now) }
     {
-        self.len.min(self.places.len())
+        self.len
     }
 
     // Takes the oldest.
@@ -79,14 +79,13 @@ impl<'a, T: Copy> Ring<'a, T> {
         ensures sized { size self.new ≡ size self.old }
         ensures line { MatchOption result ((queued self.old ≡ []) × (self.new ≡ self.old)) (λ x. queued self.old ≡ x ∷ queued self.new) }
     {
-        let n = self.places.len();
-        if self.len == 0 || n == 0 {
+        if self.len == 0 {
             return None;
         }
-        let start = if self.head < n { self.head } else { 0 };
-        let x = self.places[start];
-        self.head = start + 1;
-        self.len = self.len.min(n) - 1;
+        let x = self.places[self.head];
+        let next = self.head + 1;
+        self.head = if next < self.places.len() { next } else { 0 };
+        self.len -= 1;
         Some(x)
     }
 }

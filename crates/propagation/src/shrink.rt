@@ -22,10 +22,12 @@ pub fn settle(g: u16, keeps: u64, settled: &mut Ring<Assignment>)
 {
     let c = lowest(keeps);
     if without(keeps, c) == 0 {
-        let _ = settled.push(Assignment {
-            group: g,
-            channel: c,
-        });
+        settled
+            .push(Assignment {
+                group: g,
+                channel: c,
+            })
+            .unwrap();
     }
 }
 

@@ -1,14 +1,16 @@
 // The rule ends across from each group as chains, so that what a group's loss calls for is found without a look at every rule.
-ghost use Rattle.std.specs.Prelude.{◌≡◌, ℕ, ◌+◌, ◌*◌, ◌<◌, ◌≤◌};
+ghost use Rattle.std.specs.Prelude.{◌≡◌, ℕ, ◌+◌, ◌*◌, ◌<◌, ◌≤◌, length};
 ghost use Rattle.propagation.specs.Wires.{Facing, Chained, Wired};
 
 use rules::book::RuleBook;
 
-// The words of the chains: one for each of 8192 ends, and one for each of 200 groups. They lie in an array, since nothing here has a heap.
+// The places of the chains: one for each of 8192 ends, and one for each of 200 groups. They lie in an array, since nothing here has a heap;
+// the functions below take a slice of that length, so that a part of a longer region serves as well.
 pub const CHAINS: usize = 8392;
 
 // The end numbered `e`, which has group `g` across, goes in front of the group's chain.
-pub fn chain<B: RuleBook>(book: &B, wires: &mut [u16; CHAINS], g: u16, e: u16)
+pub fn chain<B: RuleBook>(book: &B, wires: &mut [Option<u16>], g: u16, e: u16)
+    requires size { length wires.old ≡ 8392 }
     requires group { g < 200 }
     requires end { e < 8192 }
     requires faces { Facing (B.meaning book.now) g e }
@@ -17,11 +19,12 @@ pub fn chain<B: RuleBook>(book: &B, wires: &mut [u16; CHAINS], g: u16, e: u16)
 {
     let last = 8192 + usize::from(g);
     wires[usize::from(e)] = wires[last];
-    wires[last] = e + 1;
+    wires[last] = Some(e);
 }
 
 // Both ends of a rule, where it has any.
-pub fn chain_rule<B: RuleBook>(book: &B, wires: &mut [u16; CHAINS], i: u32)
+pub fn chain_rule<B: RuleBook>(book: &B, wires: &mut [Option<u16>], i: u32)
+    requires size { length wires.old ≡ 8392 }
     requires groups { (B.meaning book.now).groups ≤ 200 }
     requires rule { i < 4096 }
     requires before { Chained (B.meaning book.now) (2 * i) wires.old }
@@ -35,12 +38,13 @@ pub fn chain_rule<B: RuleBook>(book: &B, wires: &mut [u16; CHAINS], i: u32)
 }
 
 // All rules of the book.
-pub fn wire<B: RuleBook>(book: &B, wires: &mut [u16; CHAINS])
+pub fn wire<B: RuleBook>(book: &B, wires: &mut [Option<u16>])
+    requires size { length wires.old ≡ 8392 }
     requires groups { (B.meaning book.now).groups ≤ 200 }
     requires rules { (B.meaning book.now).count ≤ 4096 }
     ensures { Wired (B.meaning book.now) wires.new }
 {
-    wires.fill(0);
+    wires.fill(None);
     // Rules have numbers and no list to go over.
     for i in 0..book.count() {
         chain_rule(book, wires, i);

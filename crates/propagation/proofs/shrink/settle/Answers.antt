@@ -2,7 +2,6 @@ use Rattle.std.proofs.Common.{◌≡◌, ℕ, ◌^◌, ◌<◌, true, sym, refl,
 use Rattle.std.proofs.lemmas.Bool.{both_ways, cases_eq}
 use Rattle.rules.specs.Channels.{has}
 use Rattle.propagation.specs.Waiting.{queued}
-use Rattle.propagation.proofs.Lines.{either_way}
 use Rattle.propagation.proofs.Digits.{has_some, cut_inside, cut_other, cut_stays, has_none}
 use Rattle.propagation.proofs.shrink.settle.Goals as goal
 
@@ -20,7 +19,7 @@ returns-then-without-eq0 c =
     record {
       held = c.push.ensures.held;
       sized = c.push.ensures.sized;
-      noting = inr (k, either_way c.push.result c.push.ensures.line (λ _ p. p.1) (λ _ p. absurd (omega (arith, p.1, c.requires.room))), (h, sole));
+      noting = inr (k, (rw c.unwrap.ensures at c.push.ensures.line).1, (h, sole));
     }
 
 pub returns-else-without-eq0 : goal.returns-else-without-eq0

@@ -1,9 +1,10 @@
-use Rattle.std.proofs.Common.{◌≡◌, ℕ, ◌-◌, ◌<◌, ◌≤◌, true}
+use Rattle.std.proofs.Common.{◌≡◌, ℕ, ◌<◌, true, IfSome}
 use Rattle.propagation.specs.Waiting.{queued}
 use Rattle.propagation.specs.Waits.{waits}
 use Rattle.propagation.specs.Lines.{SameLine}
 use Rattle.propagation.specs.Supports.{Still}
 use Rattle.propagation.specs.Wires.{Facing}
+use Rattle.propagation.proofs.Wiring.{left}
 use Rattle.propagation.proofs.desk.Desk.queue_across.Given as goal
 
 abbrev pub invariant-loop-next : goal.invariant-loop-next
@@ -11,9 +12,9 @@ invariant-loop-next g l = record {
   only : l.self ≡ record l.initial.self { line = l.self.line };
   line : SameLine l.initial.self.line l.self.line;
   still : Still (queued l.initial.self.line.ends) (queued l.self.line.ends);
-  here : 0 < l.next → Facing (g.B.RuleBook.meaning l.initial.self.book.now) l.g (l.next - 1);
-  past : (n : ℕ) → Facing (g.B.RuleBook.meaning l.initial.self.book.now) l.g n → l.next ≤ n → waits (queued l.self.line.ends) n ≡ true;
+  here : IfSome l.next (λ e. Facing (g.B.RuleBook.meaning l.initial.self.book.now) l.g e);
+  past : (n : ℕ) → Facing (g.B.RuleBook.meaning l.initial.self.book.now) l.g n → IfSome l.next (λ e. e < n) → waits (queued l.self.line.ends) n ≡ true;
 }
 
 abbrev pub decreases-loop-next : goal.decreases-loop-next
-decreases-loop-next g l = l.next
+decreases-loop-next g l = left l.next

@@ -1,21 +1,12 @@
-use Rattle.std.proofs.Common.{length, refl, inl, inr, arith}
-use Rattle.std.proofs.lemmas.Bool.{cases_lt}
-use Rattle.propagation.proofs.Lines.{Start, Count, empty_line, pop_line}
+use Rattle.std.proofs.Common.{◌+◌, length, inl, inr, arith}
+use Rattle.propagation.proofs.Lines.{Round, pop_line}
 use Rattle.propagation.proofs.ring.Ring.pop.Goals as goal
-use Rattle.propagation.proofs.ring.Ring.pop.Goals.{then-self-n, else-self-n}
+use Rattle.propagation.proofs.ring.Ring.pop.Goals.{then-next-self, else-next-self}
 
-pub returns-then-self-eq0 : goal.returns-then-self-eq0
-returns-then-self-eq0 g c = record { held = refl; sized = refl; line = (empty_line c.args.self.now.places.now c.args.self.now.head c.args.self.now.len (elim c.then-self-eq0.either [ inl e ↦ inl e | inr e ↦ inr e.1 ]), refl) }
-
-pub returns : goal.returns
-returns g c =
-    let ps = c.args.self.now.places.now in
-    let st : Start (length ps) c.args.self.now.head c.if-self-n.start =
-    elim c.if-self-n.branch [ then-self-n w ↦ inl (w.if-self-n.true, w.start-is) | else-self-n w ↦ inr (w.if-self-n.false, w.start-is) ] in
-    let ct : Count (length ps) c.args.self.now.len c.min.result =
-    elim (cases_lt c.args.self.now.len (length ps)) [ inl l ↦ inl (l, omega (arith, c.min.ensures)) | inr l ↦ inr (l, omega (arith, c.min.ensures)) ] in
-    record {
-      held = refl;
-      sized = refl;
-      line = pop_line ps c.args.self.now.head c.if-self-n.start c.args.self.now.len c.min.result c.index-self-start.result (omega arith) st (omega arith) ct;
-    }
+pub returns-clause-line : goal.returns-clause-line
+returns-clause-line g c =
+    let r = c.args.self.now in
+    let ps = r.places.now in
+    let st : Round (length ps) (r.head + 1) c.if-next-self.self =
+    elim c.if-next-self.branch [ then-next-self w ↦ inl (w.if-next-self.true, w.self-is) | else-next-self w ↦ inr (w.if-next-self.false, w.self-is) ] in
+    pop_line ps r.head c.if-next-self.self r.len c.index-self-self.result (omega (arith, c.if-self-eq0.false)) r.fits (omega (arith, c.if-self-eq0.false, r.inside, r.fits)) st
