@@ -13,3 +13,4 @@ pub mod Fronts
 pub mod Deciding
 pub mod Wiring
 pub mod Indexing
+pub mod Taking

@@ -31,9 +31,9 @@ settled_rest ms f s st = record {
 -- what waits is bounded
 waiting_few : (m : Meaning) {B : Type 0} (d : Desk B) → Held m d → length (queued d.line.ends) + length (queued d.settled) ≤ 2 * m.count + m.groups
 waiting_few m d h =
-    let a = line_few (queued d.line.ends) (2 * m.count) d.line.line.once (λ e w. let k = d.line.line.below e w in omega (arith, h.rules)) in
+    let a = line_few (queued d.line.ends) (2 * m.count) d.line.line.once (λ e w. let k = d.line.line.below e w in omega (arith, h.fits.rules)) in
     let b = stands_few (queued d.settled) (length d.domains.now) h.settled.alone h.settled.below in
-    omega (arith, a, b, h.groups)
+    omega (arith, a, b, h.fits.groups)
 
 heavier : (a b k p q : ℕ) → a < b → p < k → a * k + p < b * k + q
 heavier a b k p q l h =

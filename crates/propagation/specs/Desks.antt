@@ -26,15 +26,19 @@ pub record SameDesk {B : Type 0} (d d' : Desk B) : Type 0 where
   pub settled : d'.settled.places.ghost_name ≡ d.settled.places.ghost_name
   pub slots : size d'.settled ≡ size d.settled
 
--- The desk is in order.
-pub record Held {B : Type 0} (m : Meaning) (d : Desk B) : Type 0 where
+-- The desk fits its book.
+pub record Fitted {B : Type 0} (m : Meaning) (d : Desk B) : Type 0 where
   pub wired : Wired m d.wires.now
   pub groups : length d.domains.now ≡ m.groups
   pub rules : d.line.rules ≡ m.count
   pub grouped : AllByRecursion (Grouped m.groups) (base_of d.base.now)
   pub known : Knows d.base.now d.index.now
-  pub settled : Settled d.domains.now (queued d.settled)
   pub room : length d.domains.now ≤ size d.settled
+
+-- The desk is in order.
+pub record Held {B : Type 0} (m : Meaning) (d : Desk B) : Type 0 where
+  pub fits : Fitted m d
+  pub settled : Settled d.domains.now (queued d.settled)
   pub alive : Alive d.domains.now (family d.domains.now)
 
 -- Channels were taken away, and what that calls for was put in line: an end that does not wait waited not before and is supported if it was,
@@ -47,11 +51,6 @@ pub record Step {B : Type 0} (m : Meaning) (d d' : Desk B) : Type 0 where
 
 -- The desk is laid out: nothing waits.
 pub record Laid {B : Type 0} (m : Meaning) (d : Desk B) : Type 0 where
-  pub wired : Wired m d.wires.now
-  pub groups : length d.domains.now ≡ m.groups
-  pub rules : d.line.rules ≡ m.count
-  pub grouped : AllByRecursion (Grouped m.groups) (base_of d.base.now)
-  pub known : Knows d.base.now d.index.now
-  pub room : length d.domains.now ≤ size d.settled
+  pub fits : Fitted m d
   pub no_ends : queued d.line.ends ≡ []
   pub no_settled : queued d.settled ≡ []

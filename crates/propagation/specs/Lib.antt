@@ -11,3 +11,4 @@ pub mod Indexed
 pub mod Links
 pub mod Calms
 pub mod Filtered
+pub mod Takings

@@ -1,14 +1,10 @@
 // Sets of channels as 64-bit numbers.
-ghost use Rattle.std.specs.Prelude.{◌≡◌, ℕ, ◌<◌, ◌≤◌, true, false, not, ◌&&◌, ◌==◌};
+ghost use Rattle.std.specs.Prelude.{◌≡◌, ℕ, ◌<◌, ◌≤◌, true, not, ◌&&◌, ◌==◌};
+ghost use Rattle.std.specs.Iterator.{at_most};
 ghost use Rattle.rules.specs.Channels.{has};
+ghost use Rattle.propagation.specs.Takings.{TakesOne};
 
-// Whether the set has the channel.
-pub fn holds(set: u64, c: u8) -> bool
-    requires { c < 64 }
-    ensures { result ≡ has set c }
-{
-    (set >> c) % 2 == 1
-}
+use rules::channels::has_channel;
 
 // The set without the channel.
 pub fn without(set: u64, c: u8) -> u64
@@ -17,7 +13,11 @@ pub fn without(set: u64, c: u8) -> u64
     ensures fewer { has set c ≡ true → result < set }
     ensures bits { (j : ℕ) → has result j ≡ (has set j && not (j == c)) }
 {
-    if holds(set, c) { set - (1 << c) } else { set }
+    if has_channel(set, c) {
+        set - (1 << c)
+    } else {
+        set
+    }
 }
 
 // The lowest channel of a set that has one.
@@ -27,4 +27,25 @@ pub fn lowest(set: u64) -> u8
     ensures there { has set result ≡ true }
 {
     set.trailing_zeros() as u8
+}
+
+// The channels of a set, the lowest first. A range of 64 numbers would look at those too that are not there.
+#[derive(Drop)]
+pub struct Channels(pub u64);
+
+impl Iterator for Channels {
+    type Item = u8;
+
+    ghost next_gives = { λ s r t. TakesOne s.0 r t.0 };
+
+    ghost remaining = { λ s. at_most s.0 };
+
+    fn next(&mut self) -> Option<u8> {
+        if self.0 == 0 {
+            return None;
+        }
+        let c = lowest(self.0);
+        self.0 = without(self.0, c);
+        Some(c)
+    }
 }

@@ -8,15 +8,16 @@ ghost use Rattle.model.specs.Remains.{Family, family, Obeys, Alive};
 ghost use Rattle.propagation.specs.Supports.{Inside};
 ghost use Rattle.propagation.specs.Settling.{Emptied};
 
-use super::bits::{holds, without};
+use super::bits::without;
 use model::decision::{Decision, channel_of, group_of};
+use rules::channels::has_channel;
 
 // The set with no channel but `c`.
 pub fn alone(set: u64, c: u8) -> u64
     requires { c < 64 }
     ensures { (j : ℕ) → has result j ≡ (has set j && j == c) }
 {
-    if holds(set, c) { 1 << c } else { 0 }
+    if has_channel(set, c) { 1 << c } else { 0 }
 }
 
 // The decision of a word of the branch.

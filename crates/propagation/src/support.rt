@@ -3,7 +3,7 @@ ghost use Rattle.std.specs.Prelude.{◌≡◌, ℕ, ◌<◌, ◌≤◌, true, fa
 ghost use Rattle.rules.specs.Channels.{has};
 ghost use Rattle.propagation.specs.Supports.{allows, Backed, Kept};
 
-use super::bits::{lowest, without};
+use super::bits::{Channels, without};
 use super::records::RuleEnd;
 use rules::book::RuleBook;
 
@@ -18,20 +18,11 @@ pub fn allowed<B: RuleBook>(book: &B, e: RuleEnd, a: u8, b: u8) -> bool
     }
 }
 
-// Whether some channel across goes with `a`. Here and in `kept_at` the loop takes the lowest channel that is left, and so looks at
-// those that are there alone; a range of 64 numbers would look at all.
+// Whether some channel across goes with `a`.
 pub fn backed<B: RuleBook>(book: &B, e: RuleEnd, a: u8, across: u64) -> bool
     ensures { Decides result (Backed (B.meaning book.now) e.rule e.second across a) }
 {
-    let mut left = across;
-    while left != 0 {
-        let b = lowest(left);
-        if allowed(book, e, a, b) {
-            return true;
-        }
-        left = without(left, b);
-    }
-    false
+    Channels(across).any(|b| allowed(book, e, a, b))
 }
 
 // The set without `a`, unless that is backed from across.
@@ -55,11 +46,8 @@ pub fn kept_at<B: RuleBook>(book: &B, e: RuleEnd, set: u64, across: u64) -> u64
     ensures kept { Kept (B.meaning book.now) e.rule e.second set across result }
 {
     let mut rest = set;
-    let mut left = set;
-    while left != 0 {
-        let a = lowest(left);
+    for a in Channels(set) {
         rest = trimmed(book, e, rest, across, a);
-        left = without(left, a);
     }
     rest
 }

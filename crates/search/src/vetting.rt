@@ -17,8 +17,9 @@ use crate::held::OpenSearch;
 use crate::regions::Regions;
 use crate::words::{has_space, is_taken};
 use model::decision::{Decision, channel_of, group_of};
-use propagation::bits::{holds, without};
+use propagation::bits::without;
 use rules::book::RuleBook;
+use rules::channels::has_channel;
 use rules::refusal::Refusal;
 
 // Whether the regions that a sitting only writes are large enough for so many groups and rules.
@@ -89,7 +90,7 @@ fn admit(free: &mut [u64], decision: Decision) -> bool
 {
     let (Decision::Taken(assignment) | Decision::Refused(assignment)) = decision;
     let group = group_of(assignment);
-    if group >= free.len() || !holds(free[group], channel_of(assignment)) {
+    if group >= free.len() || !has_channel(free[group], channel_of(assignment)) {
         return false;
     }
     free[group] = stays_free(free[group], decision);

@@ -14,7 +14,7 @@ returns-in_err-prepare-clause-dead g c =
     let ws = c.args.branch.now in
     let base = base_of c.args.self.now.base.now in
     let fits : (i : ℕ) → get_or ls i 0 < 2 ^ 64 = λ i. omega (arith, c.type_inv.lists i) in
-    let size : length c.args.self.now.domains.now ≡ length ls = c.requires.laid.groups ∙ sym c.requires.groups in
+    let size : length c.args.self.now.domains.now ≡ length ls = c.requires.laid.fits.groups ∙ sym c.requires.groups in
     on_err c.from_residual.result (doomed_dies ls m law base (branch_of ws (length ws))
     (doomed ls m base ws fits c.prepare.new.domains (c.prepare.auto.domains ∙ size) (λ k o a ins. c.prepare.ensures.within k o ins) c.in_err-prepare.ensures.dead))
 
@@ -26,7 +26,7 @@ returns-clause-dead g c =
     let ws = c.args.branch.now in
     let base = base_of c.args.self.now.base.now in
     let fits : (i : ℕ) → get_or ls i 0 < 2 ^ 64 = λ i. omega (arith, c.type_inv.lists i) in
-    let size : length c.args.self.now.domains.now ≡ length ls = c.requires.laid.groups ∙ sym c.requires.groups in
+    let size : length c.args.self.now.domains.now ≡ length ls = c.requires.laid.fits.groups ∙ sym c.requires.groups in
     let r = c.run.ensures in
     on_err_weaker c.run.result (λ e. doomed_dies ls m law base (branch_of ws (length ws))
     (doomed ls m base ws fits c.run.new.self.domains.now (r.same.groups ∙ c.prepare.auto.domains ∙ size) (λ k o a ins. r.within k a (c.prepare.ensures.within k o ins)) e)) r.dead
@@ -39,7 +39,7 @@ returns-clause-lives g c =
     let ws = c.args.branch.now in
     let base = base_of c.args.self.now.base.now in
     let fits : (i : ℕ) → get_or ls i 0 < 2 ^ 64 = λ i. omega (arith, c.type_inv.lists i) in
-    let size : length c.args.self.now.domains.now ≡ length ls = c.requires.laid.groups ∙ sym c.requires.groups in
+    let size : length c.args.self.now.domains.now ≡ length ls = c.requires.laid.fits.groups ∙ sym c.requires.groups in
     let p = c.prepare.ensures in
     let r = c.run.ensures in
     let ms = c.run.new.self.domains.now in

@@ -17,7 +17,7 @@ pub loop-next-init : goal.loop-next-init
 loop-next-init g c =
     let m = g.B.RuleBook.meaning c.args.self.now.book.now in
     let d0 = c.args.self.now in
-    let known = c.requires.held.known in
+    let known = c.requires.held.fits.known in
     record {
       same = search rules;
       held = c.requires.held;
@@ -33,7 +33,7 @@ nogood-requires-clause-starts g c =
     let d0 = c.args.self.now in
     let ws = d0.base.now in
     let here : Below (At (base_of ws)) (length ws) c.args.v c.in-Some.p = subst (λ (o : Option ℕ). IfSome o (Below (At (base_of ws)) (length ws) c.args.v)) c.in-Some.is c.loop-next.invariant.here in
-    let r = stands_here ws d0.index.now c.requires.held.known c.args.v c.in-Some.p here in
+    let r = stands_here ws d0.index.now c.requires.held.fits.known c.args.v c.in-Some.p here in
     (r.nogood, r.starts)
 
 pub look-requires-clause-grouped : goal.look-requires-clause-grouped
@@ -43,9 +43,9 @@ look-requires-clause-grouped g c =
     let ws = d0.base.now in
     let i = c.loop-next.invariant in
     let here : Below (At (base_of ws)) (length ws) c.args.v c.in-Some.p = subst (λ (o : Option ℕ). IfSome o (Below (At (base_of ws)) (length ws) c.args.v)) c.in-Some.is i.here in
-    let r = stands_here ws d0.index.now c.requires.held.known c.args.v c.in-Some.p here in
+    let r = stands_here ws d0.index.now c.requires.held.fits.known c.args.v c.in-Some.p here in
     let e = c.nogood.ensures r.nogood r.starts in
-    subst (λ (n : ℕ). Grouped n c.nogood.result.now) (sym i.held.groups) (subst (Grouped m.groups) (sym e) (all_mid (Grouped m.groups) (base_of ws) r.starts.before r.nogood r.starts.after r.starts.parts c.requires.held.grouped))
+    subst (λ (n : ℕ). Grouped n c.nogood.result.now) (sym i.held.fits.groups) (subst (Grouped m.groups) (sym e) (all_mid (Grouped m.groups) (base_of ws) r.starts.before r.nogood r.starts.after r.starts.parts c.requires.held.fits.grouped))
 
 pub returns-in_err-look-clause-within : goal.returns-in_err-look-clause-within
 returns-in_err-look-clause-within g c =
@@ -53,7 +53,7 @@ returns-in_err-look-clause-within g c =
     let ws = d0.base.now in
     let i = c.loop-next.invariant in
     let here : Below (At (base_of ws)) (length ws) c.args.v c.in-Some.p = subst (λ (o : Option ℕ). IfSome o (Below (At (base_of ws)) (length ws) c.args.v)) c.in-Some.is i.here in
-    let r = stands_here ws d0.index.now c.requires.held.known c.args.v c.in-Some.p here in
+    let r = stands_here ws d0.index.now c.requires.held.fits.known c.args.v c.in-Some.p here in
     let e = c.nogood.ensures r.nogood r.starts in
     λ k h ins. c.look.ensures.within k (subst (Heeds k) (sym e) (all_mid (Heeds k) (base_of ws) r.starts.before r.nogood r.starts.after r.starts.parts h)) (i.within k h ins)
 
@@ -62,7 +62,7 @@ loop-next-smaller g c =
     let d0 = c.args.self.now in
     let ws = d0.base.now in
     let here : Below (At (base_of ws)) (length ws) c.args.v c.in-Some.p = subst (λ (o : Option ℕ). IfSome o (Below (At (base_of ws)) (length ws) c.args.v)) c.in-Some.is c.loop-next.invariant.here in
-    let next = chain_next ws d0.index.now c.requires.held.known c.args.v c.in-Some.p here c.before-next.result c.before-next.ensures in
+    let next = chain_next ws d0.index.now c.requires.held.fits.known c.args.v c.in-Some.p here c.before-next.result c.before-next.ensures in
     let a = left_falls (Below (At (base_of ws)) (length ws) c.args.v) c.before-next.result c.in-Some.p next in
     let b = ap left c.in-Some.is in
     omega arith
@@ -75,7 +75,7 @@ loop-next-preserved g c =
     let d2 = c.look.new.self in
     let ws = d0.base.now in
     let i = c.loop-next.invariant in
-    let known = c.requires.held.known in
+    let known = c.requires.held.fits.known in
     let here : Below (At (base_of ws)) (length ws) c.args.v c.in-Some.p = subst (λ (o : Option ℕ). IfSome o (Below (At (base_of ws)) (length ws) c.args.v)) c.in-Some.is i.here in
     let r = stands_here ws d0.index.now known c.args.v c.in-Some.p here in
     let e = c.nogood.ensures r.nogood r.starts in

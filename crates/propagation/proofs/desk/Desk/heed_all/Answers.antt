@@ -22,8 +22,8 @@ look-requires-clause-grouped g c =
     let done = i.done.0 in
     let e : all ≡ done ++ part ∷ rest = i.done.1 ∙ ap (λ (x : List (List ℕ)). done ++ x) first in
     let h = c.requires.held in
-    let size : m.groups ≡ length c.loop-n.self.domains.now = sym i.held.groups in
-    subst (λ (n : ℕ). Grouped n part) size (all_mid (Grouped m.groups) all done part rest e h.grouped)
+    let size : m.groups ≡ length c.loop-n.self.domains.now = sym i.held.fits.groups in
+    subst (λ (n : ℕ). Grouped n part) size (all_mid (Grouped m.groups) all done part rest e h.fits.grouped)
 
 pub returns-in_err-look-clause-within : goal.returns-in_err-look-clause-within
 returns-in_err-look-clause-within g c =

@@ -21,7 +21,7 @@ work-requires-clause-going g c =
     let eb : base_of d1.base.now ≡ base_of d0.base.now = ap (λ (b : Bor (List ℕ)). base_of b.now) c.heed_all.ensures.same.base in
     let law = g.B.RuleBook.lawful d0.book.now in
     let e = c.in_ok-heed_all.ensures in
-    let calm = calm_all m law d0.domains.now (queued c.add_all.new.self.ends) (λ i s l. c.add_all.ensures.all i s (omega (arith, l, c.requires.laid.rules))) in
+    let calm = calm_all m law d0.domains.now (queued c.add_all.new.self.ends) (λ i s l. c.add_all.ensures.all i s (omega (arith, l, c.requires.laid.fits.rules))) in
     subst (λ (x : Meaning). Going x d1) (sym em) (record {
       calm = calm_step m (record d0 { line = c.add_all.new.self }) d1 e.step calm;
       good = subst (λ (x : List (List ℕ)). AllByRecursion (Good d1.domains.now (queued d1.settled)) x) (sym eb) e.good;

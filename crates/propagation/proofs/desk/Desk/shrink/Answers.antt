@@ -1,5 +1,4 @@
-use Rattle.std.proofs.Common.{◌≡◌, ◌^◌, ◌<◌, length, get_or, set, sym, ap, ◌∙◌, subst, inr, arith}
-use Rattle.std.proofs.lemmas.List.{length-set}
+use Rattle.std.proofs.Common.{◌^◌, ◌<◌, length, get_or, sym, subst, inr, arith, rules}
 use Rattle.propagation.specs.declared.desk.Desk.{Desk}
 use Rattle.propagation.specs.Waiting.{queued, size}
 use Rattle.propagation.specs.Settling.{assignment, Noting}
@@ -23,7 +22,7 @@ settle-requires-clause-room g c =
     let some = has_some k (omega arith) c.if-keeps-eq0.false in
     let st = not_standing ms x k c.requires.group c.requires.inside fits less some s h in
     subst (λ (d : Desk g.row.B.Denot). length (queued d.settled) < size d.settled) (sym c.queue_across.ensures.only)
-    (omega (arith, stands_room s (length ms) (assignment x 0) h.alone h.below st c.requires.group, c.requires.held.room))
+    (omega (arith, stands_room s (length ms) (assignment x 0) h.alone h.below st c.requires.group, c.requires.held.fits.room))
 
 pub returns-clause-held : goal.returns-clause-held
 returns-clause-held g c =
@@ -41,16 +40,9 @@ returns-clause-held g c =
     let s = queued d.settled in
     let s' = queued c.settle.new.settled in
     let noting : Noting x k s s' = subst (λ (e : Desk g.row.B.Denot). Noting x k (queued e.settled) s') only c.settle.ensures.noting in
-    let sized : size c.settle.new.settled ≡ size d.settled = c.settle.ensures.sized ∙ ap (λ (e : Desk g.row.B.Denot). size e.settled) only in
-    let same : length (set ms x k) ≡ length ms = length-set ms x k in
     subst (λ (e : Desk g.row.B.Denot). Held m (record e { settled = c.settle.new.settled })) (sym only) (record {
-      wired = h.wired;
-      groups = same ∙ h.groups;
-      rules = c.queue_across.ensures.line.rules ∙ h.rules;
-      grouped = h.grouped;
-      known = h.known;
+      fits = search rules;
       settled = shrink_settled ms x k c.requires.group c.requires.inside fits less some s s' h.settled noting;
-      room = omega (arith, h.room, same, sized);
       alive = set_alive ms x k c.requires.group some h.alive;
     })
 

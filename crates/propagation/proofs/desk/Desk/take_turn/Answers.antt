@@ -1,4 +1,4 @@
-use Rattle.std.proofs.Common.{◌≡◌, ℕ, List, ◌∷◌, length, Bor, sym, refl, ap, ◌∙◌, subst, arith}
+use Rattle.std.proofs.Common.{◌≡◌, ℕ, List, ◌∷◌, length, Bor, sym, refl, ap, subst, arith, rules}
 use Rattle.std.specs.List.{AllByRecursion}
 use Rattle.std.proofs.ByRecursion.{All-weaker}
 use Rattle.propagation.specs.Waiting.{queued}
@@ -16,13 +16,8 @@ pub heed-requires-clause-held : goal.heed-requires-clause-held
 heed-requires-clause-held g c =
     let h = c.requires.held in
     record {
-      wired = h.wired;
-      groups = h.groups;
-      rules = h.rules;
-      grouped = h.grouped;
-      known = h.known;
+      fits = search rules;
       settled = settled_from c.args.self.now.domains.now (queued c.args.self.now.settled) (queued c.pop.new.self) _ c.in-Some.ensures.line h.settled;
-      room = omega (arith, h.room, c.pop.ensures.sized);
       alive = h.alive;
     }
 
@@ -97,13 +92,8 @@ returns-clause-turned g c =
     let f = c.in_default-take.ensures.first in
     record {
       held = record {
-        wired = h.wired;
-        groups = h.groups;
-        rules = c.take.ensures.same.rules ∙ h.rules;
-        grouped = h.grouped;
-        known = h.known;
+        fits = search rules;
         settled = subst (λ (x : List Assignment). Settled ms x) (sym same) h.settled;
-        room = omega (arith, h.room, c.pop.ensures.sized);
         alive = h.alive;
       };
       same = refl;
