@@ -7,3 +7,4 @@ pub mod Remains
 pub mod Moves
 pub mod Statements
 pub mod Said
+pub mod Nogoods

@@ -1,6 +1,7 @@
 // The theorems on runs of the search. Each function's contract is one theorem of specs/Statements.antt; the functions of this file compute nothing.
 #![tactic(auto)]
 
+pub mod base;
 pub mod decision;
 
 ghost use Rattle.model.specs.Statements.{Formed, BranchBounded, StaysShut, Sound, NoneSound, PlanSound, ClosingsBounded, MovesBounded, ReducedExample, RemainsOne, RemainsExists, MeetsUnion, BaseRead};

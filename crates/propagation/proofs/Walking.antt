@@ -1,35 +1,17 @@
 -- The base part by part. Assumes nothing.
-use Rattle.std.proofs.Common.{◌≡◌, ℕ, ◌/◌, ◌≤◌, false, ◌≢◌, List, [], ◌∷◌, ◌++◌, length, take, drop, min, inl, inr, sym, ap, ◌∙◌, subst, arith}
+use Rattle.std.proofs.Common.{◌≡◌, ℕ, ◌/◌, false, ◌≢◌, List, [], ◌∷◌, ◌++◌, sym, ◌∙◌, subst}
 use Rattle.std.specs.List.{AllByRecursion}
-use Rattle.std.proofs.lemmas.List.{take_all, drop_all, append_assoc}
+use Rattle.std.proofs.lemmas.List.{append_assoc}
 use Rattle.std.proofs.ByRecursion.{All-weaker}
 use Rattle.rules.specs.Meanings.{Meaning}
 use Rattle.model.specs.Remains.{family, Only, Gone}
 use Rattle.model.proofs.Tests.{refuted}
-use Rattle.std.proofs.lemmas.Bool.{both_ways, cases_lt}
+use Rattle.std.proofs.lemmas.Bool.{both_ways}
 use Rattle.propagation.specs.Waiting.{queued}
 use Rattle.propagation.specs.Settling.{noted}
 use Rattle.propagation.specs.declared.desk.Desk.{Desk}
 use Rattle.propagation.specs.Desks.{Step}
-use Rattle.model.specs.Words.{base_of}
-use Rattle.model.proofs.Bases.{base_cons}
 use Rattle.propagation.specs.Bases.{Good}
-
-at_most : (x : ℕ) (ws : List ℕ) → (take (min (length ws) x) ws ≡ take x ws) × (drop (min (length ws) x) ws ≡ drop x ws)
-at_most x ws = elim (cases_lt x (length ws)) [
-  | inl l ↦ (let e : min (length ws) x ≡ x = omega arith in (ap (λ (k : ℕ). take k ws) e, ap (λ (k : ℕ). drop k ws) e))
-  | inr l ↦ (let e : min (length ws) x ≡ length ws = omega arith in
-      let h : length ws ≤ length ws = omega arith in
-      (ap (λ (k : ℕ). take k ws) e ∙ take_all (length ws) ws h ∙ sym (take_all x ws l), ap (λ (k : ℕ). drop k ws) e ∙ drop_all (length ws) ws h ∙ sym (drop_all x ws l)))
-]
-
--- the first nogood of the words, and the rest
-pub base_first : (ws words part rest : List ℕ) (x k : ℕ) → ws ≡ x ∷ words → k ≡ min (length words) x → part ≡ take k words → rest ≡ drop k words → base_of ws ≡ part ∷ base_of rest
-base_first ws words part rest x k e ek ep er =
-    let m = at_most x words in
-    let front : part ≡ take x words = ep ∙ ap (λ (n : ℕ). take n words) ek ∙ m.0 in
-    let back : rest ≡ drop x words = er ∙ ap (λ (n : ℕ). drop n words) ek ∙ m.1 in
-    ap base_of e ∙ base_cons x words ∙ ap (λ (n : List ℕ). n ∷ base_of (drop x words)) (sym front) ∙ ap (λ (n : List ℕ). part ∷ base_of n) (sym back)
 
 pub all_mid : {X : Type 0} (P : X → Type 0) (xs ys : List X) (z : X) (zs : List X) → xs ≡ ys ++ z ∷ zs → AllByRecursion P xs → P z
 all_mid P xs ys z zs e a = go ys (subst (λ (x : List _). AllByRecursion P x) e a)

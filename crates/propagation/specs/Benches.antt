@@ -1,5 +1,7 @@
 -- The regions that propagation works in.
-use Rattle.std.specs.Prelude.{◌≡◌, ℕ, ◌*◌, ◌≤◌, length, drop}
+use Rattle.std.specs.Prelude.{◌≡◌, ℕ, ◌*◌, ◌≤◌, List, length, drop}
+use Rattle.propagation.specs.declared.records.RuleEnd.{RuleEnd}
+use Rattle.propagation.specs.declared.records.Assignment.{Assignment}
 use Rattle.propagation.specs.declared.bench.Bench.{Bench}
 
 -- The later bench has the very regions that the earlier one has, of the sizes that they had.
@@ -13,16 +15,16 @@ pub record SameRegions (b b' : Bench) : Type 0 where
   pub ends_size : length b'.ends.now ≡ length b.ends.now
   pub settled_size : length b'.settled.now ≡ length b.settled.now
 
--- The regions are large enough for the groups and the rules.
-pub record Roomy (groups rules : ℕ) (b : Bench) : Type 0 where
-  pub domains : groups ≤ length b.domains.now
-  pub marks : 256 ≤ length b.marks.now
-  pub ends : 2 * rules ≤ length b.ends.now
-  pub settled : groups ≤ length b.settled.now
+-- Regions of these sizes are large enough for the groups and the rules.
+pub record Roomy (groups rules : ℕ) (ds ms es ss : ℕ) : Type 0 where
+  pub domains : groups ≤ ds
+  pub marks : 256 ≤ ms
+  pub ends : 2 * rules ≤ es
+  pub settled : groups ≤ ss
 
 -- Beyond the sizes that the groups and the rules need, the regions have what they had.
-pub record Beyond (groups rules : ℕ) (b b' : Bench) : Type 0 where
-  pub domains : drop groups b'.domains.now ≡ drop groups b.domains.now
-  pub marks : drop 256 b'.marks.now ≡ drop 256 b.marks.now
-  pub ends : drop (2 * rules) b'.ends.now ≡ drop (2 * rules) b.ends.now
-  pub settled : drop groups b'.settled.now ≡ drop groups b.settled.now
+pub record Beyond (groups rules : ℕ) (ds ds' ms ms' : List ℕ) (es es' : List RuleEnd) (ss ss' : List Assignment) : Type 0 where
+  pub domains : drop groups ds' ≡ drop groups ds
+  pub marks : drop 256 ms' ≡ drop 256 ms
+  pub ends : drop (2 * rules) es' ≡ drop (2 * rules) es
+  pub settled : drop groups ss' ≡ drop groups ss

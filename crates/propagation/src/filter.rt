@@ -84,13 +84,13 @@ pub fn propagate<B: RuleBook>(
     requires narrow { length lists.now ≤ 200 }
     requires rules { (B.meaning book.now).count ≤ 4096 }
     requires linked { Linked (B.meaning book.now) base.now links.now }
-    requires roomy { Roomy (length lists.now) (B.meaning book.now).count bench.old }
+    requires roomy { Roomy (length lists.now) (B.meaning book.now).count (length bench.old.domains.now) (length bench.old.marks.now) (length bench.old.ends.now) (length bench.old.settled.now) }
     requires decided { (i : ℕ) → i < length branch.now → grp (assigned (decision (slice_index branch.now i))) < length lists.now }
     requires grouped { AllByRecursion (Grouped (length lists.now)) (base_of base.now) }
     ensures same { SameRegions bench.old bench.new }
     ensures dead { OnErr result (Dies lists.now (B.meaning book.now) (base_of base.now) (branch_of branch.now (length branch.now))) }
     ensures lives { OnOk result (Lives lists.now (B.meaning book.now) (base_of base.now) (branch_of branch.now (length branch.now)) (take (length lists.now) bench.new.domains.now)) }
-    ensures beyond { Beyond (length lists.now) (B.meaning book.now).count bench.old bench.new }
+    ensures beyond { Beyond (length lists.now) (B.meaning book.now).count bench.old.domains.now bench.new.domains.now bench.old.marks.now bench.new.marks.now bench.old.ends.now bench.new.ends.now bench.old.settled.now bench.new.settled.now }
 {
     let n = lists.len();
     let places = 2 * book.count() as usize;

@@ -11,6 +11,7 @@ ghost use Rattle.propagation.specs.Bases.{Good};
 
 use super::bench::Dead;
 use super::desk::Desk;
+use model::base::Nogoods;
 use rules::book::RuleBook;
 
 impl<'d, B: RuleBook> Desk<'d, B> {
@@ -24,11 +25,8 @@ impl<'d, B: RuleBook> Desk<'d, B> {
         ensures step { OnOk result (Step (B.meaning self.old.book.now) self.old self.new) }
         ensures good { OnOk result (AllByRecursion (Good self.new.domains.now (queued self.new.settled)) (base_of self.old.base.now)) }
     {
-        let mut base = self.base;
-        while let Some((&n, words)) = base.split_first() {
-            let (nogood, rest) = words.split_at(words.len().min(n as usize));
+        for (_, nogood) in Nogoods(self.base) {
             self.look(nogood)?;
-            base = rest;
         }
         Ok(())
     }

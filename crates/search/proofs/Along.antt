@@ -14,6 +14,7 @@ use Rattle.model.specs.Words.{recorded}
 use Rattle.model.specs.Moves.{State}
 use Rattle.propagation.specs.declared.records.RuleEnd.{RuleEnd}
 use Rattle.propagation.specs.declared.records.Assignment.{Assignment}
+use Rattle.propagation.specs.Benches.{Beyond}
 use Rattle.laws.specs.Orders.{Order, Policy, Event, asked, channel_asked, told, held_after, behaviour, moved_on, cutoffs}
 use Rattle.laws.specs.Sittings.{Search, begun, Verdict, Leaves, Turn, close, restart, decide, Sits}
 use Rattle.laws.specs.Requests.{sitting_refusal}
@@ -35,7 +36,7 @@ use Rattle.search.specs.declared.turns.Move.{Move}
 use Rattle.search.specs.declared.turns.Move.TheVariants.{Decide}
 use Rattle.search.specs.Counts.{Counted}
 use Rattle.search.specs.Regions.{SameRegions, Sizes}
-use Rattle.search.specs.Turns.{state_of, Fit, Fresh, Beyond, KeptWords, Moved}
+use Rattle.search.specs.Turns.{state_of, Fit, Fresh, KeptWords, Moved}
 
 -- The search at a state, with the events and restarts of the call so far.
 abbrev pub at : State → List Event → ℕ → Search

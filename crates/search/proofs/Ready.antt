@@ -12,7 +12,8 @@ use Rattle.laws.proofs.Refusals.{unless_none, all_none}
 use Rattle.laws.proofs.Words.{is_branch, is_base}
 use Rattle.search.specs.declared.held.OpenSearch.{OpenSearch}
 use Rattle.search.specs.Counts.{Counted}
-use Rattle.search.specs.Turns.{Fit, Roomy}
+use Rattle.propagation.specs.Benches.{Roomy}
+use Rattle.search.specs.Turns.{Fit}
 use Rattle.search.specs.Sittings.{Lent, request}
 use Rattle.search.specs.Restarts.{recall}
 

@@ -1,6 +1,6 @@
 -- The tests that a call makes, step by step.
 use Rattle.std.proofs.Common.{◌≡◌, ℕ, zero, suc, ◌+◌, ◌-◌, ◌<◌, ◌≤◌, Bool, true, false, not, ◌&&◌, eqb, ltb, ◌≢◌, List, [], ◌∷◌, ◌++◌, length, get_or, take, drop, set, Some, None, sym, refl, ap, ◌∙◌, subst, inl, inr, add-one, arith, get_or-set_other, get_or-set_same}
-use Rattle.std.proofs.lemmas.List.{take_more, take_all}
+use Rattle.std.proofs.lemmas.List.{length-append, take_more, take_all, take_at, drop_at}
 use Rattle.std.proofs.lemmas.Bool.{cases_eq, cases_Bool, ne_eqb, le-ltb, ltb-true, ltb-false, and_parts, false≢true}
 use Rattle.rules.specs.Channels.{has}
 use Rattle.std.specs.List.{list_all}
@@ -8,6 +8,7 @@ use Rattle.model.specs.Masks.{grp, chan}
 use Rattle.model.specs.Lists.{all}
 use Rattle.model.specs.Decisions.{Decision, taken, refused, word}
 use Rattle.model.specs.Words.{decision, branch_of}
+use Rattle.model.specs.Nogoods.{Begins}
 use Rattle.model.proofs.Words.{is_taken}
 use Rattle.laws.specs.Words.{listed?, free?, branch?, apart?, some?, nogood?, base?}
 use Rattle.laws.proofs.Words.{base_step, base_short}
@@ -192,10 +193,17 @@ nogood_refused lists ws few e = ap (λ b. some? ws && (b && apart? ws)) (unliste
     ]
 
 -- A base is tested nogood by nogood.
-pub base_turn : (lists rest words front back : List ℕ) (n : ℕ) (b : Bool) → rest ≡ n ∷ words → n ≤ length words → front ≡ take n words → back ≡ drop n words
-    → b ≡ nogood? lists front → base? lists rest ≡ (b && base? lists back)
-base_turn lists rest words front back n b r l f g h =
-    ap (base? lists) r ∙ base_step lists n words l ∙ ap (λ xs. nogood? lists xs && base? lists (drop n words)) (sym f) ∙ ap (λ c. c && base? lists (drop n words)) (sym h) ∙ ap (λ xs. b && base? lists xs) (sym g)
+pub base_turn : (lists words nogood rest : List ℕ) (n : ℕ) (b : Bool) → Begins words n nogood rest → n ≤ length nogood → b ≡ nogood? lists nogood → base? lists words ≡ (b && base? lists rest)
+base_turn lists words nogood rest n b e l h =
+    let long : length nogood ≡ n = let m = e.at_most in omega arith in
+    let room : n ≤ length (nogood ++ rest) = let a = length-append nogood rest in omega arith in
+    ap (base? lists) e.front ∙ base_step lists n (nogood ++ rest) room
+    ∙ ap (λ xs. nogood? lists xs && base? lists (drop n (nogood ++ rest))) (take_at nogood rest n long)
+    ∙ ap (λ xs. nogood? lists nogood && base? lists xs) (drop_at nogood rest n long)
+    ∙ ap (λ c. c && base? lists rest) (sym h)
 
-pub base_stops : (lists rest words : List ℕ) (n : ℕ) → rest ≡ n ∷ words → length words < n → base? lists rest ≡ false
-base_stops lists rest words n r l = ap (base? lists) r ∙ base_short lists n words l
+pub base_stops : (lists words nogood rest : List ℕ) (n : ℕ) → Begins words n nogood rest → length nogood < n → base? lists words ≡ false
+base_stops lists words nogood rest n e l =
+    let none : length rest ≡ 0 = ap length (e.short l) in
+    let room : length (nogood ++ rest) < n = let a = length-append nogood rest in omega arith in
+    ap (base? lists) e.front ∙ base_short lists n (nogood ++ rest) room

@@ -10,6 +10,7 @@ use Rattle.model.specs.Remains.{family, Dead}
 use Rattle.model.specs.Moves.{State, start}
 use Rattle.propagation.specs.declared.records.RuleEnd.{RuleEnd}
 use Rattle.propagation.specs.declared.records.Assignment.{Assignment}
+use Rattle.propagation.specs.Benches.{Beyond}
 use Rattle.laws.specs.Orders.{held_after, behaviour, moved_on, cutoffs}
 use Rattle.laws.specs.Sittings.{Search, begun, Verdict, none, plan, unsettled, Leaves, Sits}
 use Rattle.laws.specs.Requests.{Request, open_refusal, sitting_refusal}
@@ -22,7 +23,7 @@ use Rattle.search.specs.declared.held.SettledSearch.{SettledSearch}
 use Rattle.search.specs.declared.held.Sat.{Sat}
 use Rattle.search.specs.declared.held.Sat.TheVariants.{Plan as SatPlan, None as SatNone, Open as SatOpen}
 use Rattle.search.specs.declared.regions.Regions.{Regions}
-use Rattle.search.specs.Turns.{state_of, Beyond, KeptWords}
+use Rattle.search.specs.Turns.{state_of, KeptWords}
 use Rattle.search.specs.Calls.{asking, opening}
 
 -- What a sitting is lent, or leaves: the regions, the order and the policy.

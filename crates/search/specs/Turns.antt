@@ -10,8 +10,6 @@ use Rattle.model.specs.Words.{branch_of, base_of, recorded}
 use Rattle.model.specs.Moves.{State, nogoods, closing, restarting, deciding}
 use Rattle.model.specs.Remains.{family, Dead, Alive}
 use Rattle.propagation.specs.Filtered.{Lives}
-use Rattle.propagation.specs.declared.records.RuleEnd.{RuleEnd}
-use Rattle.propagation.specs.declared.records.Assignment.{Assignment}
 use Rattle.laws.specs.Orders.{held_after, behaviour, moved_on, cutoffs}
 use Rattle.laws.specs.Sittings.{Search, begun, blamed, Leaves, Going, Turn}
 use Rattle.search.specs.declared.held.Progress.{Progress}
@@ -116,25 +114,11 @@ AliveTurn om pm room left masks h h' q q' s s' (Made Close) = ⊥
 AliveTurn om pm room left masks h h' q q' s s' (Made Restart) = (0 < left) × ((g : ℕ) × Open masks g) × RestartTurn pm room h h' q q' s s'
 AliveTurn om pm room left masks h h' q q' s s' (Made Decide) = (0 < left) × ((g : ℕ) × Open masks g) × DecideTurn om pm room masks h h' q q' s s'
 
--- What a turn leaves as it was in the regions that it works in: all beyond the sizes asked for.
-pub record Beyond (groups rules : ℕ) (ds ds' ms ms' : List ℕ) (es es' : List RuleEnd) (ss ss' : List Assignment) : Type 0 where
-  pub domains : drop groups ds' ≡ drop groups ds
-  pub marks : drop 256 ms' ≡ drop 256 ms
-  pub ends : drop (2 * rules) es' ≡ drop (2 * rules) es
-  pub settled : drop groups ss' ≡ drop groups ss
-
--- What it leaves in the branch and the base: base words past the used ones, and branch words beyond the size.
+-- What a turn leaves as it was in the branch and the base: base words past the used ones, and branch words beyond the size.
 pub record KeptWords (groups used used' : ℕ) (ws ws' bs bs' : List ℕ) : Type 0 where
   pub branch : drop (64 * groups) ws' ≡ drop (64 * groups) ws
   pub grown : used ≤ used'
   pub base : drop used' bs' ≡ drop used' bs
-
--- The regions are large enough for the groups and the rules.
-pub record Roomy (groups rules : ℕ) (ds ms es ss : ℕ) : Type 0 where
-  pub domains : groups ≤ ds
-  pub marks : 256 ≤ ms
-  pub ends : 2 * rules ≤ es
-  pub settled : groups ≤ ss
 
 -- The newest decision is taken, and the domains are what remained before it.
 pub record Fresh (lists : List ℕ) (book : Meaning) (p : Progress) (branch base domains : List ℕ) : Type 0 where

@@ -26,15 +26,14 @@ pub fn open<B: RuleBook>(lists: &[u64], book: &B) -> Result<OpenSearch, Refusal>
 }
 
 // Writes the one channel that each group keeps.
-fn write_plan(groups: usize, domains: &[u64], plan: &mut [u8])
-    requires sized { groups ≤ length domains.now }
-    requires room { groups ≤ length plan.old }
-    ensures written { (g : ℕ) → g < groups → slice_index_or plan.new g 64 ≡ count_trailing_zeros 64 (slice_index domains.now g) }
-    ensures fits { (g : ℕ) → g < groups → slice_index domains.now g < 2 ^ 64 }
-    ensures beyond { drop groups plan.new ≡ drop groups plan.old }
+fn write_plan(domains: &[u64], plan: &mut [u8])
+    requires room { length domains.now ≤ length plan.old }
+    ensures written { (g : ℕ) → g < length domains.now → slice_index_or plan.new g 64 ≡ count_trailing_zeros 64 (slice_index domains.now g) }
+    ensures fits { (g : ℕ) → g < length domains.now → slice_index domains.now g < 2 ^ 64 }
+    ensures beyond { drop (length domains.now) plan.new ≡ drop (length domains.now) plan.old }
 {
     // By index: what `iter_mut` leaves of a slice is known by its length alone.
-    for (group, domain) in domains[..groups].iter().enumerate() {
+    for (group, domain) in domains.iter().enumerate() {
         plan[group] = domain.trailing_zeros() as u8;
     }
 }
@@ -71,7 +70,8 @@ pub fn sitting<B: RuleBook, O: Order, P: RestartPolicy>(
             Step::Plan => {
                 let domains = &mut *regions.domains;
                 let plan = &mut *regions.plan;
-                write_plan(lists.len(), domains, plan);
+                let (remain, _) = domains.split_at(lists.len());
+                write_plan(remain, plan);
                 return Ok(Sat::Plan(SettledSearch { counts: at.counts }));
             }
             Step::Spent => return Ok(Sat::Open(OpenSearch { groups, at })),

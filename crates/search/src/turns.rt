@@ -8,9 +8,10 @@ ghost use Rattle.propagation.specs.Bases.{Grouped};
 ghost use Rattle.propagation.specs.Indexed.{Knows};
 ghost use Rattle.propagation.specs.Links.{Linked};
 ghost use Rattle.propagation.specs.Filtered.{Lives, Dies};
+ghost use Rattle.propagation.specs.Benches.{Roomy, Beyond};
 ghost use Rattle.search.specs.Counts.{Counted};
 ghost use Rattle.search.specs.Regions.{SameRegions};
-ghost use Rattle.search.specs.Turns.{state_of, Fit, DueAt, DeadTurn, AliveTurn, Beyond, KeptWords, Roomy, Fresh, Turned};
+ghost use Rattle.search.specs.Turns.{state_of, Fit, DueAt, DeadTurn, AliveTurn, KeptWords, Fresh, Turned};
 
 use crate::held::Progress;
 use crate::moves::{close, decide, restart, some_wide};
@@ -74,39 +75,35 @@ fn is_due<P: RestartPolicy>(policy: &P, at: &Progress, branch: &[u32], base: &[u
     policy.cutoff() <= at.since && has_space(at, branch, base)
 }
 
-// A turn where every group keeps a channel. It takes the whole region of domains with the number of groups: of a part of a region in a
-// struct the check does not learn what it is left as.
+// A turn where every group keeps a channel.
 fn turn_alive<O: Order, P: RestartPolicy>(
     order: &mut O,
     policy: &mut P,
     left: u32,
     at: &mut Progress,
-    groups: usize,
     domains: &[u64],
     branch: &mut [u32],
     base: &mut [u32],
     links: &mut Links,
 ) -> Step
-    requires few { groups ≤ 200 }
-    requires sized { groups ≤ length domains.now }
-    requires within { at.old.branch_len ≤ 64 * groups }
-    requires room { 64 * groups ≤ length branch.old }
-    requires spare { ((g : ℕ) × Open (take groups domains.now) g) → at.old.branch_len < 64 * groups }
+    requires few { length domains.now ≤ 200 }
+    requires within { at.old.branch_len ≤ 64 * length domains.now }
+    requires room { 64 * length domains.now ≤ length branch.old }
+    requires spare { ((g : ℕ) × Open domains.now g) → at.old.branch_len < 64 * length domains.now }
     requires used { at.old.base_used ≤ length base.old }
     requires short { length base.old ≤ 65536 }
     requires words { take at.old.base_used base.old ≡ recorded (base_of (take at.old.base_used base.old)) }
     requires small { AllByRecursion (Grouped 200) (nogoods (state_of at.old branch.old base.old)) }
     requires known { Knows (take at.old.base_used base.old) links.old.index }
     requires counted { Counted left at.old }
-    ensures turn { AliveTurn O.Order.meaning P.RestartPolicy.meaning (length base.old) left (take groups domains.now) (O.Order.held order.old) (O.Order.held order.new) (P.RestartPolicy.held policy.old) (P.RestartPolicy.held policy.new) (state_of at.old branch.old base.old) (state_of at.new branch.new base.new) result }
-    ensures within { at.new.branch_len ≤ 64 * groups }
+    ensures turn { AliveTurn O.Order.meaning P.RestartPolicy.meaning (length base.old) left domains.now (O.Order.held order.old) (O.Order.held order.new) (P.RestartPolicy.held policy.old) (P.RestartPolicy.held policy.new) (state_of at.old branch.old base.old) (state_of at.new branch.new base.new) result }
+    ensures within { at.new.branch_len ≤ 64 * length domains.now }
     ensures used { at.new.base_used ≤ length base.new }
     ensures words { take at.new.base_used base.new ≡ recorded (base_of (take at.new.base_used base.new)) }
-    ensures kept { KeptWords groups at.old.base_used at.new.base_used branch.old branch.new base.old base.new }
+    ensures kept { KeptWords (length domains.now) at.old.base_used at.new.base_used branch.old branch.new base.old base.new }
     ensures known { Knows (take at.new.base_used base.new) links.new.index }
     ensures wires { links.new.wires ≡ links.old.wires }
 {
-    let domains = &domains[..groups];
     if !some_wide(domains) {
         return Step::Plan;
     }
@@ -225,15 +222,6 @@ pub(crate) fn turn<B: RuleBook, O: Order, P: RestartPolicy>(
     if let Err(Dead) = remains {
         return turn_dead(order, left, at, branch);
     }
-    turn_alive(
-        order,
-        policy,
-        left,
-        at,
-        lists.len(),
-        domains,
-        branch,
-        base,
-        links,
-    )
+    let (remain, _) = domains.split_at(lists.len());
+    turn_alive(order, policy, left, at, remain, branch, base, links)
 }

@@ -16,6 +16,7 @@ ghost use Rattle.search.specs.Calls.{asking, opening, Vets, FreeFor};
 use crate::held::OpenSearch;
 use crate::regions::Regions;
 use crate::words::{has_space, is_taken};
+use model::base::Nogoods;
 use model::decision::{Decision, channel_of, group_of};
 use propagation::bits::without;
 use rules::book::RuleBook;
@@ -135,17 +136,10 @@ fn base_sound(lists: &[u64], base: &[u32]) -> bool
     requires few { length lists.now ≤ 200 }
     ensures { result ≡ base? lists.now base.now }
 {
-    let mut rest = base;
-    while let Some((count, words)) = rest.split_first() {
-        let count = *count as usize;
-        if count > words.len() {
+    for (count, nogood) in Nogoods(base) {
+        if nogood.len() < count as usize || !nogood_sound(lists, nogood) {
             return false;
         }
-        let (nogood, after) = words.split_at(count);
-        if !nogood_sound(lists, nogood) {
-            return false;
-        }
-        rest = after;
     }
     true
 }

@@ -1,4 +1,4 @@
-use Rattle.std.proofs.Common.{ℕ, ◌^◌, ◌<◌, ◌≤◌, [], length, take, drop, Some, sym, refl, ap, ◌∙◌, subst, inl, inr, rules, arith}
+use Rattle.std.proofs.Common.{◌≡◌, ℕ, ◌^◌, ◌<◌, ◌≤◌, List, [], length, get_or, take, drop, Some, sym, refl, ap, ◌∙◌, subst, inl, inr, rules, arith}
 use lib.Count.{count_trailing_zeros}
 use Rattle.std.proofs.lemmas.List.{length-take-le, get_or-take}
 use Rattle.model.specs.Moves.{State}
@@ -140,7 +140,7 @@ write_plan-requires g c =
     let y = ready (g.B.RuleBook.meaning c.args.book.now) c.args.search c.args.lists.now c.args.allowance found c.in_default.ensures in
     let i = c.moves.invariant.0 in
     let e = c.in-Plan.ensures in
-    record { sized = omega (arith, y.roomy.domains, e.same.domains_size, c.moves.invariant.1.domains_size); room = omega (arith, y.plan, ap length e.plan, ap length i.plan) }
+    omega (arith, y.plan, ap length e.plan, ap length i.plan, c.split_at.ensures.front_len)
 
 pub returns-in-Plan-clause-answers : goal.returns-in-Plan-clause-answers
 returns-in-Plan-clause-answers g c =
@@ -156,13 +156,15 @@ returns-in-Plan-clause-answers g c =
     let masks = take (length lists) ds in
     let roomy : length lists ≤ length xs = omega (arith, y.plan, ap length e.plan, ap length i.plan, c.write_plan.auto.plan) in
     let w = c.write_plan.ensures in
-    let one = single lists masks (take (length lists) xs) t.2 t.3 (λ k l. subst (λ (m : ℕ). m < 2 ^ 64) (sym (get_or-take (length lists) ds k 0 l)) (w.fits k l))
-    (λ k l. get_or-take (length lists) xs k 64 l ∙ w.written k l ∙ ap (count_trailing_zeros 64) (sym (get_or-take (length lists) ds k 0 l))) in (
+    let cut = c.split_at.ensures.front in
+    let size = c.split_at.ensures.front_len in
+    let one = single lists masks (take (length lists) xs) t.2 t.3 (λ k l. subst (λ (ms : List ℕ). get_or ms k 0 < 2 ^ 64) cut (w.fits k (omega (arith, size))))
+    (λ k l. get_or-take (length lists) xs k 64 l ∙ w.written k (omega (arith, size)) ∙ ap (λ (ms : List ℕ). count_trailing_zeros 64 (get_or ms k 0)) cut) in (
       settles g.O.Order.meaning g.P.RestartPolicy.meaning g.O.Order.held g.P.RestartPolicy.held (g.B.RuleBook.meaning c.args.book.now) c.args.search lists c.args.allowance found _ (plan (take (length lists) xs)) _ c.turn.new.at refl
           (comes g.O.Order.meaning g.met.O.Order.lawful g.P.RestartPolicy.meaning g.met.P.RestartPolicy.lawful g.O.Order.held g.P.RestartPolicy.held (g.B.RuleBook.meaning c.args.book.now) (g.B.RuleBook.lawful c.args.book.now)
           c.args.search lists c.args.allowance found c.in_default.ensures c.moves.left c.moves.last c.moves.at c.turn.new.at here _ (plan (take (length lists) xs)) i
           t.0.state t.0.order t.0.policy (ends_plan masks t.1 (take (length lists) xs) (length-take-le (length lists) xs roomy) one) (inl t.1) e.fit e.beyond e.kept),
-      w.beyond ∙ ap (drop (length lists)) (e.plan ∙ i.plan),
+      subst (λ (k : ℕ). drop k xs ≡ drop k c.turn.new.regions.plan.now) size w.beyond ∙ ap (drop (length lists)) (e.plan ∙ i.plan),
     )
 
 pub returns-in-Err : goal.returns-in-Err

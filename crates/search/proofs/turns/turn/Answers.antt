@@ -1,9 +1,10 @@
 use Rattle.std.proofs.Common.{◌*◌, ◌≤◌, length, take, sym, refl, ap, ◌∙◌, subst, arith}
 use Rattle.std.proofs.lemmas.List.{length-take-le}
+use Rattle.branching.specs.Channels.{Open}
 use Rattle.model.specs.Words.{base_of, recorded}
 use Rattle.propagation.specs.Wires.{Wired}
 use Rattle.propagation.specs.Indexed.{Knows}
-use Rattle.search.specs.Turns.{state_of}
+use Rattle.search.specs.Turns.{state_of, AliveTurn, KeptWords}
 use Rattle.search.proofs.Turning.{dead_masks, live_masks, spare, turned_dead, turned_alive, turned_whole, fit_whole, small_nogoods, fresh_from, length_branch_of, not_decided, decided_state}
 use Rattle.search.proofs.States.{past_more}
 use Rattle.search.proofs.turns.turn.Goals as goal
@@ -67,15 +68,15 @@ turn_alive-requires g c =
     let f = c.requires.fit in
     let ds = c.refresh-remains.new.domains in
     let inside : length lists ≤ length ds = omega (arith, c.refresh-remains.auto.domains, c.requires.roomy.domains) in
+    let size = c.split_at.ensures.front_len in
     let lives = c.in_default.ensures.lives in
     let leaves = live_masks lists m (state_of p ws bs) (take (length lists) ds) (length-take-le (length lists) ds inside) lives in
     record {
-      few = omega (arith, f.few);
-      sized = inside;
-      within = omega (arith, f.branch_in);
-      room = omega (arith, f.branch_room);
+      few = omega (arith, f.few, size);
+      within = omega (arith, f.branch_in, size);
+      room = omega (arith, f.branch_room, size);
       spare = λ o.
-          let k = spare lists m (state_of p ws bs) (take (length lists) ds) leaves (fit_whole lists p ws bs f) o.0 (o.1) in
+          let k = spare lists m (state_of p ws bs) (take (length lists) ds) leaves (fit_whole lists p ws bs f) o.0 (subst (λ ms. Open ms o.0) c.split_at.ensures.front (o.1)) in
           let n = length_branch_of ws p.branch_len in
           omega arith;
       used = f.base_in;
@@ -111,7 +112,9 @@ returns g c =
     let masks = take (length lists) ds in
     let lives = c.in_default.ensures.lives in
     let leaves = live_masks lists m s masks (length-take-le (length lists) ds inside) lives in
-    let a = d.turn in
+    let size = c.split_at.ensures.front_len in
+    let a = subst (λ ms. AliveTurn om pm (length bs) c.args.left ms h h' q q' s s' c.turn_alive.result) c.split_at.ensures.front d.turn in
+    let kept = subst (λ k. KeptWords k p.base_used p'.base_used ws ws' bs bs') size d.kept in
     let t = turned_alive lists m om pm (length bs) c.args.left masks h h' q q' s s' c.turn_alive.result a leaves lives.alive in
     let w = turned_whole lists m om pm (length bs) c.args.left masks h h' q q' s s' g.met.O.Order.lawful g.met.P.RestartPolicy.lawful c.turn_alive.result t (fit_whole lists p ws bs f) in
     record {
@@ -121,7 +124,7 @@ returns g c =
       fit = record {
         some = f.some;
         few = f.few;
-        branch_in = omega (arith, d.within);
+        branch_in = omega (arith, d.within, size);
         branch_room = omega (arith, c.turn_alive.auto.branch, f.branch_room);
         base_in = d.used;
         base_room = omega (arith, c.turn_alive.auto.base, f.base_room);
@@ -132,9 +135,5 @@ returns g c =
       linked = record { wired = subst (Wired m) (sym d.wires) c.requires.linked.wired; known = d.known };
       fresh = λ e. let k = decided_state om pm (length bs) c.args.left h h' q q' s s' c.turn_alive.result masks a e in fresh_from lists m p p' ws ws' bs bs' ds k.0 k.1 lives;
       beyond = c.refresh-remains.ensures.beyond;
-      kept = record {
-        branch = d.kept.branch;
-        grown = d.kept.grown;
-        base = d.kept.base;
-      };
+      kept = kept;
     }

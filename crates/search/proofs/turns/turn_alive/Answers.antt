@@ -107,7 +107,7 @@ returns g c =
       used = omega arith;
       words = ap (λ k. take k bs) used ∙ c.requires.words ∙ ap (λ k. recorded (base_of (take k bs))) (sym used);
       kept = record {
-        branch = past_set (64 * c.args.groups) p.branch_len _ ws c.decide.new.branch spare d.words;
+        branch = past_set (64 * length c.args.domains.now) p.branch_len _ ws c.decide.new.branch spare d.words;
         grown = omega arith;
         base = refl;
       };
