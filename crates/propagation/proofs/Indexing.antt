@@ -1,108 +1,29 @@
--- Chains of numbers made number by number, and the places of a base. Assumes nothing.
-use Rattle.std.proofs.Common.{◌≡◌, ℕ, zero, suc, ◌+◌, ◌-◌, ◌/◌, ◌<◌, ◌≤◌, ◌≢◌, ◌⊎◌, List, [], ◌∷◌, ◌++◌, length, get_or, set, take, drop, replicate, Option, Some, None, IfSome, IsSomeAnd, sym, refl, ap, ◌∙◌, subst, inl, inr, append_assoc, arith, length-append}
+-- The places of a base, and an index of them, made place by place and followed. Assumes nothing.
+use Rattle.std.proofs.Common.{◌≡◌, ℕ, suc, ◌+◌, ◌-◌, ◌/◌, ◌<◌, ◌≤◌, ◌≢◌, ◌⊎◌, List, [], ◌∷◌, ◌++◌, length, get_or, set, take, drop, Option, Some, None, IfSome, IsSomeAnd, sym, refl, ap, ◌∙◌, subst, inl, inr, append_assoc, arith, length-append}
 use Rattle.std.specs.List.{AllByRecursion}
 use Rattle.std.proofs.lemmas.Bool.{cases_eq, cases_lt}
-use Rattle.std.proofs.lemmas.Option.{IfSome_then}
 use Rattle.std.proofs.ByRecursion.{All-get_or}
 use Rattle.std.proofs.lemmas.List.{get_or-set_same, get_or-set_other, get_or-append-add, get_or_append_left, length-take-le, take-append-drop, take_at, drop_at}
 use Rattle.model.specs.Words.{recorded, base_of}
 use Rattle.model.proofs.Bases.{base_cons}
 use Rattle.propagation.specs.declared.index.Index.{Index}
 use Rattle.propagation.specs.Bases.{Grouped}
-use Rattle.propagation.specs.Indexed.{Chains, Below, Starts, Stands, At, Indexed, Knows}
+use Rattle.propagation.specs.Chains.{link, Below}
+use Rattle.propagation.specs.Indexed.{Starts, Stands, At, Indexed, Knows}
 use Rattle.propagation.proofs.Walking.{all_mid}
+use Rattle.propagation.proofs.Chaining.{chains_same, chains_skip, chains_more, above_below}
 
 -- the number after one, in two spellings
 after_one : (i : ℕ) → 1 + i ≡ suc i
 after_one i = omega arith
 
-pub nones : (n i : ℕ) → ◌≡◌ {A = Option ℕ} (get_or (replicate n None) i None) None
-nones zero i = refl
-nones (suc n) zero = refl
-nones (suc n) (suc i) = nones n i
-
--- chains of one relation are those of another that says the same
-pub chains_same : (R S : ℕ → ℕ → Type 0) (heads links : List (Option ℕ)) → ((v p : ℕ) → R v p → S v p) → ((v p : ℕ) → S v p → R v p) → Chains R heads links → Chains S heads links
-chains_same R S heads links there back c = record {
-  last = λ v p r. c.last v p (back v p r);
-  head = λ v. IfSome_then (get_or heads v None) (c.head v) (λ e r. there v e r);
-  next = λ v p j r t. c.next v p j (back v p r) (back v j t);
-  down = λ v p r. IfSome_then (get_or links p None) (c.down v p (back v p r)) (λ e t. (t.0, there v e t.1));
-}
-
--- nothing is in the chains at first
-pub chains_none : (R : ℕ → ℕ → Type 0) (heads links : List (Option ℕ)) → ((v p : ℕ) → R v p → ⊥) → ((v : ℕ) → get_or heads v None ≡ None) → Chains R heads links
-chains_none R heads links none z = record {
-  last = λ v p r. absurd (none v p r);
-  head = λ v. subst (λ (o : Option ℕ). IfSome o (R v)) (sym (z v)) tt;
-  next = λ v p j r. absurd (none v p r);
-  down = λ v p r. absurd (none v p r);
-}
-
--- a number of no key is passed over
-pub chains_skip : (R : ℕ → ℕ → Type 0) (k : ℕ) (heads links : List (Option ℕ)) → ((v : ℕ) → R v k → ⊥) → Chains (Below R k) heads links → Chains (Below R (k + 1)) heads links
-chains_skip R k heads links none c = chains_same (Below R k) (Below R (k + 1)) heads links (λ v p r. (r.0, omega (arith, r.1))) (λ v p r. (r.0, below v p r.0 r.1)) c
-  where
-    below : (v p : ℕ) → R v p → p < k + 1 → p < k
-    below v p r l = elim (cases_eq p k) [ inl q ↦ absurd (none v (subst (R v) q r)) | inr d ↦ omega arith ]
-
--- a number goes in front of the chain of its key
-module _ (R : ℕ → ℕ → Type 0) (k v : ℕ) (heads links : List (Option ℕ)) (small : v < length heads) (low : k < length links) (here : R v k) (one : (w : ℕ) → R w k → w ≡ v) (c : Chains (Below R k) heads links) where
-  abbrev old : Option ℕ
-  old = get_or heads v None
-
-  abbrev tops : List (Option ℕ)
-  tops = set heads v (Some k)
-
-  abbrev downs : List (Option ℕ)
-  downs = set links k old
-
-  at_key : get_or tops v None ≡ Some k
-  at_key = get_or-set_same heads v (Some k) None small
-
-  at_other : (w : ℕ) → (w ≡ v → ⊥) → get_or tops w None ≡ get_or heads w None
-  at_other w n = get_or-set_other heads v w (Some k) None n
-
-  at_number : get_or downs k None ≡ old
-  at_number = get_or-set_same links k old None low
-
-  at_lower : (p : ℕ) → p < k → get_or downs p None ≡ get_or links p None
-  at_lower p l = get_or-set_other links k p old None (λ q. omega arith)
-
-  pub chains_more : Chains (Below R (k + 1)) tops downs
-  chains_more = record {
-    last = λ w p r. elim (cases_eq w v) [
-      | inl q ↦ subst (λ (x : ℕ). IsSomeAnd (get_or tops x None) (λ e. p ≤ e)) (sym q) (subst (λ (o : Option ℕ). IsSomeAnd o (λ e. p ≤ e)) (sym at_key) (omega (arith, r.1)))
-      | inr d ↦ subst (λ (o : Option ℕ). IsSomeAnd o (λ e. p ≤ e)) (sym (at_other w d)) (c.last w p (r.0, other w p d r.0 r.1))
-    ];
-    head = λ w. elim (cases_eq w v) [
-      | inl q ↦ subst (λ (x : ℕ). IfSome (get_or tops x None) (Below R (k + 1) x)) (sym q) (subst (λ (o : Option ℕ). IfSome o (Below R (k + 1) v)) (sym at_key) (here, omega arith))
-      | inr d ↦ subst (λ (o : Option ℕ). IfSome o (Below R (k + 1) w)) (sym (at_other w d)) (IfSome_then (get_or heads w None) (c.head w) (λ e t. (t.0, omega (arith, t.1))))
-    ];
-    next = λ w p j r t l. elim (cases_eq p k) [
-      | inl q ↦ subst (λ (x : ℕ). IsSomeAnd (get_or downs x None) (λ e. j ≤ e)) (sym q)
-          (subst (λ (o : Option ℕ). IsSomeAnd o (λ e. j ≤ e)) (sym at_number) (c.last v j (subst (λ (x : ℕ). R x j) (one w (subst (R w) q r.0)) t.0, omega arith)))
-      | inr d ↦ (let b : p < k = omega (arith, r.1) in subst (λ (o : Option ℕ). IsSomeAnd o (λ e. j ≤ e)) (sym (at_lower p b)) (c.next w p j (r.0, b) (t.0, omega arith) l))
-    ];
-    down = λ w p r. elim (cases_eq p k) [
-      | inl q ↦ subst (λ (x : ℕ). IfSome (get_or downs x None) (λ e. (e < x) × Below R (k + 1) w e)) (sym q)
-          (subst (λ (o : Option ℕ). IfSome o (λ e. (e < k) × Below R (k + 1) w e)) (sym at_number)
-          (IfSome_then old (subst (λ (x : ℕ). IfSome old (Below R k x)) (sym (one w (subst (R w) q r.0))) (c.head v)) (λ e t. (t.1, (t.0, omega (arith, t.1))))))
-      | inr d ↦ (let b : p < k = omega (arith, r.1) in
-          subst (λ (o : Option ℕ). IfSome o (λ e. (e < p) × Below R (k + 1) w e)) (sym (at_lower p b)) (IfSome_then (get_or links p None) (c.down w p (r.0, b)) (λ e t. (t.0, (t.1.0, omega (arith, t.1.1))))))
-    ];
-  }
-    where
-      other : (w p : ℕ) → (w ≡ v → ⊥) → R w p → p < k + 1 → p < k
-      other w p d r l = elim (cases_eq p k) [ inl q ↦ absurd (d (one w (subst (R w) q r))) | inr e ↦ omega arith ]
-
 -- the words of recorded nogoods
 pub record_cons : (n : List ℕ) (ns : List (List ℕ)) → length (recorded (n ∷ ns)) ≡ 1 + length n + length (recorded ns)
 record_cons n ns = let e = length-append n (recorded ns) in omega arith
 
-pub record_join : (ns ms : List (List ℕ)) → recorded (ns ++ ms) ≡ recorded ns ++ recorded ms
-record_join [] ms = refl
-record_join (n ∷ ns) ms = ap (λ (r : List ℕ). (length n ∷ n) ++ r) (record_join ns ms) ∙ sym (append_assoc (length n ∷ n) (recorded ns) (recorded ms))
+pub recorded_join : (ns ms : List (List ℕ)) → recorded (ns ++ ms) ≡ recorded ns ++ recorded ms
+recorded_join [] ms = refl
+recorded_join (n ∷ ns) ms = ap (λ (r : List ℕ). (length n ∷ n) ++ r) (recorded_join ns ms) ∙ sym (append_assoc (length n ∷ n) (recorded ns) (recorded ms))
 
 same_first : (x y : List ℕ) (xs ys : List (List ℕ)) → x ∷ xs ≡ y ∷ ys → x ≡ y
 same_first x y xs ys e = ap (λ (l : List (List ℕ)). get_or l 0 []) e
@@ -187,7 +108,7 @@ pub indexed_more : (base ns ms : List (List ℕ)) (x : Index) → base ≡ ns ++
 indexed_more base ns ms x e i =
     let k = length (recorded ns) in
     record {
-      chains = chains_same (Below (At ns) k) (Below (At base) k) x.heads x.links (λ v p r. ((r.0.0, stands_more base ns ms r.0.0 v p e r.0.1), r.1)) (λ v p r. ((r.0.0, stands_less base ns ms r.0.0 v p e r.1 r.0.1), r.1)) i.chains;
+      chains = chains_same (Below (At ns) k) (Below (At base) k) (link x.heads) (link x.links) (λ v p r. ((r.0.0, stands_more base ns ms r.0.0 v p e r.0.1), r.1)) (λ v p r. ((r.0.0, stands_less base ns ms r.0.0 v p e r.1 r.0.1), r.1)) i.chains;
       starts = λ v p l r. stands_more base ns ms (get_or x.starts p 0) v p e (i.starts v p l (r.0, stands_less base ns ms r.0 v p e l r.1));
     }
 
@@ -200,7 +121,7 @@ module _ (ws : List ℕ) (base : List (List ℕ)) (s : ℕ) (n : List ℕ) (whol
   back = recorded t.after
 
   around : ws ≡ front ++ length n ∷ (n ++ back)
-  around = whole ∙ ap recorded t.parts ∙ record_join t.before (n ∷ t.after)
+  around = whole ∙ ap recorded t.parts ∙ recorded_join t.before (n ∷ t.after)
 
   pub count_there : get_or ws s 0 ≡ length n
   count_there =
@@ -235,7 +156,7 @@ module _ (ws : List ℕ) (base : List (List ℕ)) (s : ℕ) (n : List ℕ) (whol
 
   pub next_start : (done rest : List (List ℕ)) × (base ≡ done ++ rest) × (s + 1 + get_or ws s 0 ≡ length (recorded done))
   next_start =
-      let a = ap length (record_join t.before (n ∷ [])) ∙ length-append front (recorded (n ∷ [])) in
+      let a = ap length (recorded_join t.before (n ∷ [])) ∙ length-append front (recorded (n ∷ [])) in
       let b = record_cons n [] in
       (t.before ++ n ∷ [], t.after, t.parts ∙ sym (append_assoc t.before (n ∷ []) t.after), omega (arith, count_there, t.start))
 
@@ -251,7 +172,7 @@ small_standing base s v p g t =
 -- the place where a nogood starts is passed over
 pub indexed_skip : (base : List (List ℕ)) (s : ℕ) (n : List ℕ) (x : Index) → Starts base s n → Indexed base s x → Indexed base (s + 1) x
 indexed_skip base s n x t i = record {
-  chains = chains_skip (At base) s x.heads x.links none i.chains;
+  chains = chains_skip (At base) s (link x.heads) (link x.links) none i.chains;
   starts = λ v p l r. elim (cases_eq p s) [ inl q ↦ absurd (none v (subst (At base v) q r)) | inr d ↦ i.starts v p (omega arith) r ];
 }
   where
@@ -262,9 +183,13 @@ indexed_skip base s n x t i = record {
 pub indexed_link : (base : List (List ℕ)) (s v p : ℕ) (x y : Index) → v < length x.heads → p < length x.links → p < length x.starts → Stands base s v p
     → y.heads ≡ set x.heads v (Some p) → y.links ≡ set x.links p (get_or x.heads v None) → y.starts ≡ set x.starts p s → Indexed base p x → Indexed base (p + 1) y
 indexed_link base s v p x y h l m t eh el es i = record {
-  chains = subst (λ (z : List (Option ℕ)). Chains (Below (At base) (p + 1)) z y.links) (sym eh)
-      (subst (λ (z : List (Option ℕ)). Chains (Below (At base) (p + 1)) (set x.heads v (Some p)) z) (sym el)
-      (chains_more (At base) p v x.heads x.links h l (s, t) (λ w r. same w r.0 r.1) i.chains));
+  chains =
+      chains_more (At base) p v (link x.heads) (link x.links) (link y.heads) (link y.links) (s, t) (λ w r. same w r.0 r.1)
+      (ap (λ (z : List (Option ℕ)). link z v) eh ∙ get_or-set_same x.heads v (Some p) None h)
+      (λ w n. ap (λ (z : List (Option ℕ)). link z w) eh ∙ get_or-set_other x.heads v w (Some p) None n)
+      (ap (λ (z : List (Option ℕ)). link z p) el ∙ get_or-set_same x.links p (get_or x.heads v None) None l)
+      (λ q b. ap (λ (z : List (Option ℕ)). link z q) el ∙ get_or-set_other x.links p q (get_or x.heads v None) None (λ e. omega arith))
+      i.chains;
   starts = λ w q b r. elim (cases_eq q p) [
     | inl e ↦ (let f : get_or y.starts q 0 ≡ s = ap (λ (z : List ℕ). get_or z q 0) es ∙ ap (λ (z : ℕ). get_or (set x.starts p s) z 0) e ∙ get_or-set_same x.starts p s 0 m in
         let u : w ≡ v = same w r.0 (subst (Stands base r.0 w) e r.1) in
@@ -306,13 +231,13 @@ knows_front ws k x l h =
 -- before the end a nogood starts
 pub some_start : (ws : List ℕ) (base done rest : List (List ℕ)) (s : ℕ) → ws ≡ recorded base → base ≡ done ++ rest → s ≡ length (recorded done) → s < length ws → (n : List ℕ) × Starts base s n
 some_start ws base done [] s w e q l = absurd (
-    let a = ap length w ∙ ap (λ (x : List (List ℕ)). length (recorded x)) e ∙ ap length (record_join done []) ∙ length-append (recorded done) [] in omega arith
+    let a = ap length w ∙ ap (λ (x : List (List ℕ)). length (recorded x)) e ∙ ap length (recorded_join done []) ∙ length-append (recorded done) [] in omega arith
     )
 some_start ws base done (n ∷ rest) s w e q l = (n, record { before = done; after = rest; parts = e; start = q })
 
 pub parts_long : (ws : List ℕ) (base done rest : List (List ℕ)) (s : ℕ) → ws ≡ recorded base → base ≡ done ++ rest → s ≡ length (recorded done) → s ≤ length ws
 parts_long ws base done rest s w e q =
-    let a = ap length w ∙ ap (λ (x : List (List ℕ)). length (recorded x)) e ∙ ap length (record_join done rest) ∙ length-append (recorded done) (recorded rest) in omega arith
+    let a = ap length w ∙ ap (λ (x : List (List ℕ)). length (recorded x)) e ∙ ap length (recorded_join done rest) ∙ length-append (recorded done) (recorded rest) in omega arith
 
 -- what holds of the nogoods without an assignment, and of those where it stands
 find : (v : ℕ) (n : List ℕ) → AllByRecursion (λ x. x ≢ v) n ⊎ ((i : ℕ) × (i < length n) × (get_or n i 0 ≡ v))
@@ -337,27 +262,8 @@ all_met P v base a met = go [] base refl a
     go done [] e b = tt
     go done (n ∷ rest) e b = (one done n rest e b.0, go (done ++ n ∷ []) rest (e ∙ sym (append_assoc done (n ∷ []) rest)) b.1)
 
--- how much of a chain is left at most
-abbrev pub left : Option ℕ → ℕ
-left None = 0
-left (Some e) = e + 1
-
-pub left_falls : (Q : ℕ → Type 0) (o : Option ℕ) (p : ℕ) → IfSome o (λ e. (e < p) × Q e) → left o < p + 1
-left_falls Q None p h = omega arith
-left_falls Q (Some e) p h = omega (arith, h.0)
-
--- what is in a chain is not past where the chain goes on
-pub not_past : (o : Option ℕ) (p : ℕ) → IsSomeAnd o (λ e. p ≤ e) → IfSome o (λ e. e < p) → ⊥
-not_past None p h l = h
-not_past (Some e) p h l = omega arith
-
 pub place_below : (ws : List ℕ) (base : List (List ℕ)) (s v p : ℕ) → ws ≡ recorded base → Stands base s v p → p < length ws
 place_below ws base s v p whole t = let r = room_there ws base s t.nogood whole t.starts in omega (arith, t.there, t.place)
-
--- where a chain ends
-pub at_end_all : (Q : ℕ → Type 0) (o : Option ℕ) → ((x : ℕ) → o ≡ Some x → ⊥) → IfSome o Q
-at_end_all Q None h = tt
-at_end_all Q (Some x) h = absurd (h x refl)
 
 -- along the chain of an assignment in an index
 module _ (ws : List ℕ) (x : Index) (h : Knows ws x) (v : ℕ) where
@@ -371,7 +277,7 @@ module _ (ws : List ℕ) (x : Index) (h : Knows ws x) (v : ℕ) where
   chain_first o e = subst (λ (z : Option ℕ). IfSome z Here) (sym e) (h.indexed.chains.head v)
 
   pub none_past : (o : Option ℕ) → o ≡ get_or x.heads v None → (s p : ℕ) → Stands (base_of ws) s v p → IfSome o (λ e. e < p) → ⊥
-  none_past o e s p t l = not_past o p (subst (λ (z : Option ℕ). IsSomeAnd z (λ y. p ≤ y)) (sym e) (h.indexed.chains.last v p (put_there s p t))) l
+  none_past o e s p t l = above_below o p (subst (λ (z : Option ℕ). IsSomeAnd z (λ y. p ≤ y)) (sym e) (h.indexed.chains.last v p (put_there s p t))) l
 
   module _ (p : ℕ) (here : Below (At (base_of ws)) (length ws) v p) where
     pub stands_here : Stands (base_of ws) (get_or x.starts p 0) v p
@@ -382,7 +288,7 @@ module _ (ws : List ℕ) (x : Index) (h : Knows ws x) (v : ℕ) where
       chain_next = subst (λ (z : Option ℕ). IfSome z (λ y. (y < p) × Here y)) (sym e) (h.indexed.chains.down v p here)
 
       pub none_between : (s q : ℕ) → Stands (base_of ws) s v q → q < p → IfSome o (λ y. y < q) → ⊥
-      none_between s q t b l = not_past o q (subst (λ (z : Option ℕ). IsSomeAnd z (λ y. q ≤ y)) (sym e) (h.indexed.chains.next v p q here (put_there s q t) b)) l
+      none_between s q t b l = above_below o q (subst (λ (z : Option ℕ). IsSomeAnd z (λ y. q ≤ y)) (sym e) (h.indexed.chains.next v p q here (put_there s q t) b)) l
 
 -- the nogoods past a place are met, once that of the place is
 pub past_more : (P : List ℕ → Type 0) (ws : List ℕ) (x : Index) (h : Knows ws x) (v p : ℕ) (here : Below (At (base_of ws)) (length ws) v p) (o : Option ℕ) → o ≡ get_or x.links p None

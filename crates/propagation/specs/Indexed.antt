@@ -1,18 +1,8 @@
 -- Which nogoods of a base have an assignment, as chains of the places where it stands.
-use Rattle.std.specs.Prelude.{◌≡◌, ℕ, ◌+◌, ◌<◌, ◌≤◌, List, ◌∷◌, ◌++◌, length, Option, None, IfSome, IsSomeAnd, slice_index, slice_index_or}
+use Rattle.std.specs.Prelude.{◌≡◌, ℕ, ◌+◌, ◌<◌, List, ◌∷◌, ◌++◌, length, slice_index}
 use Rattle.model.specs.Words.{recorded, base_of}
 use Rattle.propagation.specs.declared.index.Index.{Index}
-
--- The numbers of each key, in a chain: for each key its highest number, and for each number the next lower one of its key.
-pub record Chains (R : ℕ → ℕ → Type 0) (heads links : List (Option ℕ)) : Type 0 where
-  pub last : (v p : ℕ) → R v p → IsSomeAnd (slice_index_or heads v None) (λ e. p ≤ e)
-  pub head : (v : ℕ) → IfSome (slice_index_or heads v None) (R v)
-  pub next : (v p j : ℕ) → R v p → R v j → j < p → IsSomeAnd (slice_index_or links p None) (λ e. j ≤ e)
-  pub down : (v p : ℕ) → R v p → IfSome (slice_index_or links p None) (λ e. (e < p) × R v e)
-
--- Of the numbers those below k.
-abbrev pub Below : (ℕ → ℕ → Type 0) → ℕ → ℕ → ℕ → Type 0
-Below R k v p = R v p × (p < k)
+use Rattle.propagation.specs.Chains.{link, Chains, Below}
 
 -- The nogood n of the base starts at the place s of the words that record it: there stands the number of its assignments.
 pub record Starts (base : List (List ℕ)) (s : ℕ) (n : List ℕ) : Type 0 where
@@ -35,7 +25,7 @@ At base v p = (s : ℕ) × Stands base s v p
 
 -- The index has the places below k: each in the chain of the assignment that stands there, with the start of its nogood.
 pub record Indexed (base : List (List ℕ)) (k : ℕ) (x : Index) : Type 0 where
-  pub chains : Chains (Below (At base) k) x.heads x.links
+  pub chains : Chains (Below (At base) k) (link x.heads) (link x.links)
   pub starts : (v p : ℕ) → p < k → At base v p → Stands base (slice_index x.starts p) v p
 
 -- The words record nogoods, and the index has all their places.

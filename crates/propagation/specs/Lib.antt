@@ -4,6 +4,7 @@ pub mod Waits
 pub mod Lines
 pub mod Settling
 pub mod Supports
+pub mod Chains
 pub mod Wires
 pub mod Desks
 pub mod Bases

@@ -1,4 +1,4 @@
-use Rattle.std.proofs.Common.{◌≡◌, ℕ, ◌<◌, length, Bor, Option, IfSome, sym, ap, subst, arith, rules}
+use Rattle.std.proofs.Common.{◌≡◌, ℕ, ◌<◌, length, Bor, Option, IfSome, sym, ap, subst, rules}
 use Rattle.std.proofs.ByRecursion.{All-weaker}
 use Rattle.std.proofs.lemmas.Option.{IfSome_then}
 use Rattle.rules.specs.Meanings.{Meaning}
@@ -7,10 +7,12 @@ use Rattle.model.specs.Remains.{Heeds}
 use Rattle.model.specs.Words.{base_of}
 use Rattle.propagation.specs.Desks.{Held, Step}
 use Rattle.propagation.specs.Bases.{Good, Grouped, Spared}
-use Rattle.propagation.specs.Indexed.{Below, At}
+use Rattle.propagation.specs.Chains.{Below}
+use Rattle.propagation.specs.Indexed.{At}
 use Rattle.propagation.proofs.Steps.{same_then, step_same, step_then}
 use Rattle.propagation.proofs.Walking.{all_mid, good_step}
-use Rattle.propagation.proofs.Indexing.{left, left_falls, all_met, at_end_all, chain_first, none_past, stands_here, chain_next, past_more}
+use Rattle.propagation.proofs.Chaining.{left_below, only_none}
+use Rattle.propagation.proofs.Indexing.{all_met, chain_first, none_past, stands_here, chain_next, past_more}
 use Rattle.propagation.proofs.desk.Desk.heed.Goals as goal
 
 pub loop-next-init : goal.loop-next-init
@@ -62,10 +64,8 @@ loop-next-smaller g c =
     let d0 = c.args.self.now in
     let ws = d0.base.now in
     let here : Below (At (base_of ws)) (length ws) c.args.v c.in-Some.p = subst (λ (o : Option ℕ). IfSome o (Below (At (base_of ws)) (length ws) c.args.v)) c.in-Some.is c.loop-next.invariant.here in
-    let next = chain_next ws d0.index.now c.requires.held.fits.known c.args.v c.in-Some.p here c.before-next.result c.before-next.ensures in
-    let a = left_falls (Below (At (base_of ws)) (length ws) c.args.v) c.before-next.result c.in-Some.p next in
-    let b = ap left c.in-Some.is in
-    omega arith
+    left_below c.loop-next.next c.before-next.result c.in-Some.p c.in-Some.is (Below (At (base_of ws)) (length ws) c.args.v)
+    (chain_next ws d0.index.now c.requires.held.fits.known c.args.v c.in-Some.p here c.before-next.result c.before-next.ensures)
 
 pub loop-next-preserved : goal.loop-next-preserved
 loop-next-preserved g c =
@@ -98,4 +98,4 @@ pub returns-clause-good : goal.returns-clause-good
 returns-clause-good g c =
     let d1 = c.loop-next.self in
     let i = c.loop-next.invariant in
-    all_met (Good d1.domains.now (queued d1.settled)) c.args.v (base_of c.args.self.now.base.now) i.others (λ s p t. i.past s p t (at_end_all (λ y. y < p) c.loop-next.next (λ x e. c.in_default.not-Some x e)))
+    all_met (Good d1.domains.now (queued d1.settled)) c.args.v (base_of c.args.self.now.base.now) i.others (λ s p t. i.past s p t (subst (λ (o : Option ℕ). IfSome o (λ y. y < p)) (sym (only_none c.loop-next.next (λ x e. c.in_default.not-Some x e))) tt))

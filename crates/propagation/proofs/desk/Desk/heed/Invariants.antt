@@ -6,8 +6,9 @@ use Rattle.model.specs.Words.{base_of}
 use Rattle.propagation.specs.Supports.{Inside}
 use Rattle.propagation.specs.Desks.{SameDesk, Held, Step}
 use Rattle.propagation.specs.Bases.{Good, Spared}
-use Rattle.propagation.specs.Indexed.{Below, Stands, At}
-use Rattle.propagation.proofs.Indexing.{left}
+use Rattle.propagation.specs.Chains.{Below}
+use Rattle.propagation.specs.Indexed.{Stands, At}
+use Rattle.propagation.proofs.Chaining.{left}
 use Rattle.propagation.proofs.desk.Desk.heed.Given as goal
 
 abbrev pub invariant-loop-next : goal.invariant-loop-next

@@ -1,6 +1,7 @@
 use Rattle.std.proofs.Common.{[], refl, arith}
-use Rattle.propagation.specs.Indexed.{Below, At}
-use Rattle.propagation.proofs.Indexing.{nones, chains_none}
+use Rattle.propagation.specs.Chains.{Below}
+use Rattle.propagation.specs.Indexed.{At}
+use Rattle.propagation.proofs.Chaining.{nones, chains_none}
 use Rattle.propagation.proofs.index.Index.new.Goals as goal
 
 pub returns : goal.returns
