@@ -14,7 +14,7 @@ fn is_open(domains: &[u64], group: u16) -> bool
     ensures { result ≡ open? domains.now group }
 {
     domains
-        .get(group as usize)
+        .get(usize::from(group))
         .is_some_and(|d| d.count_ones() >= 2)
 }
 

@@ -70,7 +70,7 @@ impl Order for FewestFirst {
     }
 
     fn channel(&mut self, domains: &[u64], group: u16) -> Option<u8> {
-        let m = *domains.get(group as usize)?;
+        let m = *domains.get(usize::from(group))?;
         if m == 0 {
             return None;
         }

@@ -14,7 +14,7 @@ use rules::table::{TableBook, TableEntry};
 fn front<'a, T: Copy>(entries: &'a [T], n: u16) -> &'a [T]
     ensures { result.now ≡ take n entries.now }
 {
-    let size = entries.len().min(n as usize);
+    let size = entries.len().min(usize::from(n));
     &entries[..size]
 }
 

@@ -1,5 +1,5 @@
 -- What a job is loaded into: exactly what its records say, with places for every job within the limits.
-use Rattle.std.specs.Prelude.{◌≡◌, ℕ, List, vec_items}
+use Rattle.std.specs.Prelude.{◌≡◌, ℕ, List, vec_items, vec_len}
 use Rattle.rules.specs.declared.gap.GapEntry.{GapEntry}
 use Rattle.rules.specs.declared.table.TableEntry.{TableEntry}
 use Rattle.jobs.specs.declared.fault.LoadFault.{LoadFault}
@@ -24,9 +24,13 @@ Taken bs m n ls gs ts = (i : ℕ) × Accepts bs m i × (n ≡ held (after bs i))
 abbrev pub Faulty : List ℕ → Room → LoadFault → Type 0
 Faulty bs m f = (i : ℕ) × Refuses bs m f i
 
+-- how many lists, gaps and tables a store has
+abbrev pub numbers : Store → Loaded
+numbers s = record { groups = vec_len s.lists; gaps = vec_len s.gaps; tables = vec_len s.tables }
+
 -- a store has what the job says
 abbrev pub Stored : List ℕ → Store → Type 0
-Stored bs s = Taken bs places s.loaded (vec_items s.lists) (vec_items s.gaps) (vec_items s.tables)
+Stored bs s = Taken bs places (numbers s) (vec_items s.lists) (vec_items s.gaps) (vec_items s.tables)
 
 -- there is none where the job has a fault, which the refusal tells, or where memory is wanting
 abbrev pub Unstored : List ℕ → PlanError → Type 0

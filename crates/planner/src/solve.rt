@@ -70,7 +70,7 @@ pub fn solve<O: Order, P: RestartPolicy>(
     let store = Store::load(heap, job)?;
     let mut memory = Memory::new(heap, &store, settings.base_words)?;
     let lists = store.lists.as_slice();
-    let book = book(job, store.loaded, &store.gaps, &store.tables);
+    let book = book(job, store.loaded(), &store.gaps, &store.tables);
     let search = open(lists, &book)?;
     let sat = sit_on(search, lists, &book, order, policy, settings, &mut memory)?;
     Ok(memory.answer(sat))

@@ -12,10 +12,9 @@ pub const GROUPS: usize = 200;
 
 pub const RULES: usize = 4096;
 
-// What a job says: its lists, its gaps and its tables, with their numbers as a book takes them.
+// What a job says: its lists, its gaps and its tables.
 #[derive(Drop)]
 pub struct Store {
-    pub loaded: Loaded,
     pub lists: Vec<u64>,
     pub gaps: Vec<GapEntry>,
     pub tables: Vec<TableEntry>,
@@ -26,7 +25,7 @@ pub struct Store {
 
 impl Store {
     // These name the struct itself, so they are brought in here and not above it.
-    ghost use Rattle.planner.specs.Stores.{Stored, Unstored};
+    ghost use Rattle.planner.specs.Stores.{numbers, Stored, Unstored};
 
     // The lists, the gaps and the tables of a job, or its first fault.
     pub fn load(heap: Global, job: &[u8]) -> Result<Store, PlanError>
@@ -36,15 +35,25 @@ impl Store {
         let mut gaps = vec![in heap; GapEntry::default(); RULES]?;
         let mut tables = vec![in heap; TableEntry::default(); RULES]?;
         let loaded = load(job, &mut lists, &mut gaps, &mut tables)?;
-        lists.truncate(loaded.groups as usize);
-        gaps.truncate(loaded.gaps as usize);
-        tables.truncate(loaded.tables as usize);
+        lists.truncate(usize::from(loaded.groups));
+        gaps.truncate(usize::from(loaded.gaps));
+        tables.truncate(usize::from(loaded.tables));
         Ok(Store {
-            loaded,
             lists,
             gaps,
             tables,
         })
+    }
+
+    // The numbers of lists, of gaps and of tables, as a book takes them. There are few, so none is cut short.
+    pub fn loaded(&self) -> Loaded
+        ensures { result ≡ numbers self.now }
+    {
+        Loaded {
+            groups: self.lists.len() as u16,
+            gaps: self.gaps.len() as u16,
+            tables: self.tables.len() as u16,
+        }
     }
 
     // How many rules the job has.

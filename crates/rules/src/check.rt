@@ -12,7 +12,10 @@ fn counts_match<B: RuleBook>(lists: &[u64], book: &B, plan: &[u8]) -> bool
     ensures { result ≡ counts_fit lists.now (B.meaning book.now) plan.now }
 {
     let n = lists.len();
-    (1..=200).contains(&n) && book.groups() as usize == n && book.count() <= 4096 && plan.len() == n
+    (1..=200).contains(&n)
+        && usize::from(book.groups()) == n
+        && book.count() <= 4096
+        && plan.len() == n
 }
 
 // The lowest group whose channel is not in its list.
@@ -34,7 +37,7 @@ fn breaks<B: RuleBook>(book: &B, plan: &[u8], rule: u32) -> bool
     let Some((g, h)) = book.ends(rule) else {
         return false;
     };
-    !book.permits(rule, plan[g as usize], plan[h as usize])
+    !book.permits(rule, plan[usize::from(g)], plan[usize::from(h)])
 }
 
 // The lowest rule that the plan breaks.

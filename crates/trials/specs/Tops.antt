@@ -1,9 +1,9 @@
 -- What the highest-first order answers.
-use Rattle.std.specs.Prelude.{◌≡◌, ℕ, true, false, cond, zero, suc, ◌-◌, ◌/◌, ◌%◌, ◌^◌, ◌<◌, ◌≤◌, List, length, Some, None, Option, MatchOption, ◌≢◌, slice_index, refl}
+use Rattle.std.specs.Prelude.{◌≡◌, ℕ, true, false, cond, zero, suc, ◌-◌, ◌*◌, ◌/◌, ◌%◌, ◌^◌, ◌<◌, ◌≤◌, List, length, Some, None, Option, MatchOption, slice_index, refl}
 use Rattle.std.proofs.Common.{ap, subst, ◌∙◌, inl, inr, arith, pow_mono}
 use Rattle.std.proofs.Math.Nat.{div-eq_of_lt-le}
 use Rattle.std.specs.Int.Count.{count_leading_zeros}
-use Rattle.std.proofs.lemmas.Nat.{leading_top}
+use Rattle.std.proofs.lemmas.Nat.{leading_top, pow_pos}
 use Rattle.std.proofs.lemmas.Bool.{cases_eq, cases_lt, cond_both, cond-true, cond-false, leb-true, leb-false}
 use Rattle.rules.specs.Channels.{Has}
 use Rattle.branching.specs.Channels.{Open, count, open?}
@@ -83,9 +83,9 @@ highest_at ms (suc n) g l two above =
       | inr ne ↦ cond-false (open? ms n) (Some n) (highest_of ms n) (above n (omega arith) (omega arith)) ∙ highest_at ms n g (omega arith) two (λ j k m. above j k (omega arith))
     ]
 
-pub top_by : (m : ℕ) → (m ≢ 0) → m < 2 ^ 64 → Some (63 - count_leading_zeros 64 m) ≡ top m
-top_by zero p q = absurd (p refl)
-top_by (suc n) p q =
-    ap Some (top_unique (suc n) (63 - count_leading_zeros 64 (suc n)) (n - count_leading_zeros (suc n) (suc n))
-    (top_at 64 (suc n) (omega arith) q)
+pub top_between : (m k : ℕ) → 2 ^ k ≤ m → m < 2 * 2 ^ k → Some k ≡ top m
+unfolding Top
+top_between zero k p q = absurd (omega (arith, p, pow_pos k))
+top_between (suc n) k p q =
+    ap Some (top_unique (suc n) k (n - count_leading_zeros (suc n) (suc n)) (p, omega (arith, q))
     (subst (λ x. Top (suc n) (x - count_leading_zeros (suc n) (suc n))) (omega arith) (top_at (suc n) (suc n) (omega arith) (below_pow (suc n)))))

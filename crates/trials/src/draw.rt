@@ -3,6 +3,7 @@ ghost use Rattle.std.specs.Prelude.{◌≡◌, ◌<◌, ◌≤◌, length, IfOk}
 
 use crate::job::{Gap, Job, Table};
 use std::alloc::{AllocError, Global};
+use std::array;
 
 #[derive(Drop)]
 pub struct Draw {
@@ -86,15 +87,13 @@ impl Draw {
     // Rows that permit about half of all pairs, or about three in four.
     fn rows(&mut self) -> [u64; 64] {
         let dense = self.below(2) == 1;
-        let mut rows = [0u64; 64];
-        for row in &mut rows {
-            *row = if dense {
+        array::from_fn(|_row| {
+            if dense {
                 self.bits() | self.bits()
             } else {
                 self.bits()
-            };
-        }
-        rows
+            }
+        })
     }
 
     fn tables(&mut self, heap: Global, n: u16, rules: u16) -> Result<Vec<Table>, AllocError>

@@ -61,7 +61,7 @@ fn play_job(
 ) -> Result<Answer, PlanError> {
     let store = Store::load(heap, job)?;
     let mut memory = roomy_memory(heap, &store)?;
-    let book = book(job, store.loaded, &store.gaps, &store.tables);
+    let book = book(job, store.loaded(), &store.gaps, &store.tables);
     let sat = play(draw, &store.lists, &book, &mut memory, calls)?;
     Ok(memory.answer(sat))
 }

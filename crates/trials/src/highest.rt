@@ -25,11 +25,9 @@ impl Order for HighestFirst {
 
     // As fewest first answers, from the other end.
     fn channel(&mut self, domains: &[u64], group: u16) -> Option<u8> {
-        let channels = *domains.get(group as usize)?;
-        if channels == 0 {
-            return None;
-        }
-        Some(63 - channels.leading_zeros() as u8)
+        let channels = *domains.get(usize::from(group))?;
+        let highest = channels.checked_ilog2()?;
+        Some(highest as u8)
     }
 
     fn told(&mut self, _group: u16) {}

@@ -99,7 +99,7 @@ impl Rule for Table {
     }
 
     fn permits(&self, a: u8, b: u8) -> bool {
-        a < 64 && has(self.rows[a as usize], b)
+        a < 64 && has(self.rows[usize::from(a)], b)
     }
 
     fn add_to(&self, out: &mut Vec<u8>) -> Result<(), AllocError> {
@@ -113,7 +113,10 @@ fn keeps<R: Rule>(channels: &[u8], rule: &R) -> bool
     ensures { result ≡ kept channels.now (R.ends rule.now) (R.permitted rule.now) }
 {
     let (first, second) = rule.groups();
-    match (channels.get(first as usize), channels.get(second as usize)) {
+    match (
+        channels.get(usize::from(first)),
+        channels.get(usize::from(second)),
+    ) {
         (Some(a), Some(b)) => rule.permits(*a, *b),
         _ => true,
     }
@@ -138,7 +141,7 @@ fn are_listed(channels: &[u8], lists: &[u64]) -> bool
 fn half_word(count: usize) -> u16
     ensures { result ≡ min count 65535 }
 {
-    count.min(u16::MAX as usize) as u16
+    u16::try_from(count).unwrap_or(u16::MAX)
 }
 
 fn add_word(out: &mut Vec<u8>, word: u64) -> Result<(), AllocError>

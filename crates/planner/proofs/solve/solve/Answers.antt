@@ -22,7 +22,7 @@ returns g c =
     let groups : vec_len plan ≡ length job.lists = kept.0 ∙ new.plan ∙ store.lists.ok.0 ∙ ap length st.3 in
     let own : lists ≡ job.lists = c.as_slice-lists.ensures.value ∙ st.3 in
     let long : length (vec_items plan) ≡ length lists = sym plan.ok.0 ∙ groups ∙ sym (ap length own) in
-    let book = c.book-book.ensures.stands ∙ book_same bs job store.loaded c.deref.result.now c.deref-2.result.now st.2 (c.deref.ensures.value ∙ st.4) (c.deref-2.ensures.value ∙ st.5) in
+    let book = c.book-book.ensures.stands ∙ book_same bs job c.loaded.result c.deref.result.now c.deref-2.result.now (c.loaded.ensures ∙ st.2) (c.deref.ensures.value ∙ st.4) (c.deref-2.ensures.value ∙ st.5) in
     let verdict : reached (take (length lists) (vec_items plan)) sat ≡ told_by answer.verdict =
     ap (λ (xs : List ℕ). reached xs sat) (take_all (length lists) (vec_items plan) (omega arith)) ∙ sym c.answer.ensures.told in (
       st.0,
