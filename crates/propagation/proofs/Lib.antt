@@ -11,5 +11,7 @@ pub mod Starting
 pub mod Filtering
 pub mod Fronts
 pub mod Deciding
+pub mod Chaining
 pub mod Wiring
+pub mod Indexing
 pub mod Taking

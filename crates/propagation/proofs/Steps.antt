@@ -141,6 +141,7 @@ same_then d e f s t = record {
   book = t.book ∙ s.book;
   wires = t.wires ∙ s.wires;
   base = t.base ∙ s.base;
+  index = t.index ∙ s.index;
   domains = t.domains ∙ s.domains;
   groups = t.groups ∙ s.groups;
   line = record { places = t.line.places ∙ s.line.places; marks = t.line.marks ∙ s.line.marks; size = t.line.size ∙ s.line.size; rules = t.line.rules ∙ s.line.rules };

@@ -1,5 +1,5 @@
 -- One turn of the work. Assumes nothing.
-use Rattle.std.proofs.Common.{◌≡◌, ℕ, ◌+◌, ◌*◌, ◌<◌, ◌≤◌, Bool, true, false, ◌≢◌, ◌⊎◌, List, [], ◌∷◌, length, Some, sum, sym, refl, ap, ◌∙◌, subst, inl, inr, mul-le-mul_right, add-mul, one-mul, arith}
+use Rattle.std.proofs.Common.{◌≡◌, ℕ, ◌+◌, ◌*◌, ◌<◌, ◌≤◌, Bool, true, false, ◌≢◌, ◌⊎◌, List, [], ◌∷◌, length, sum, sym, refl, ap, ◌∙◌, subst, inl, inr, mul-le-mul_right, add-mul, one-mul, arith}
 use Rattle.std.specs.List.{AllByRecursion}
 use Rattle.std.proofs.ByRecursion.{All-weaker}
 use Rattle.std.proofs.lemmas.Bool.{cases_eq, or_right, or_from, ne_eqb}
@@ -88,10 +88,10 @@ pub settled_from : (ms : List ℕ) (p s : List Assignment) (f : Assignment) → 
 settled_from ms p s f e st = settled_rest ms f s (subst (λ (x : List Assignment). Settled ms x) e st)
 
 -- a nogood without the assignment that was taken out of line is as good as before
-pub spare : (ms : List ℕ) (p s : List Assignment) (f : Assignment) (v : ℕ) → p ≡ f ∷ s → v ≡ 64 * f.group + f.channel → (base : List (List ℕ)) → AllByRecursion (Good ms p) base → AllByRecursion (λ n. Spared (Some v) n → Good ms s n) base
-spare ms p s f v e ev base a = All-weaker (Good ms p) (λ n. Spared (Some v) n → Good ms s n) one base a
+pub spare : (ms : List ℕ) (p s : List Assignment) (f : Assignment) (v : ℕ) → p ≡ f ∷ s → v ≡ 64 * f.group + f.channel → (base : List (List ℕ)) → AllByRecursion (Good ms p) base → AllByRecursion (λ n. Spared v n → Good ms s n) base
+spare ms p s f v e ev base a = All-weaker (Good ms p) (λ n. Spared v n → Good ms s n) one base a
   where
-    one : (n : List ℕ) → Good ms p n → Spared (Some v) n → Good ms s n
+    one : (n : List ℕ) → Good ms p n → Spared v n → Good ms s n
     one n good sp quiet = good (subst (λ (x : List Assignment). AllByRecursion (λ w. noted x w ≡ false) n) (sym e)
         (all_join (λ x. x ≢ v) (λ w. noted s w ≡ false) (λ w. noted (f ∷ s) w ≡ false) (λ x d h. or_from _ _ (ne_eqb (64 * f.group + f.channel) x (λ q. d (sym (ev ∙ q)))) h) n sp quiet))
 

@@ -1,5 +1,5 @@
 -- Nogoods that are heeded.
-use Rattle.std.specs.Prelude.{◌≡◌, ℕ, ◌/◌, ◌<◌, false, ◌≢◌, List, Some, None, Option}
+use Rattle.std.specs.Prelude.{◌≡◌, ℕ, ◌/◌, ◌<◌, false, ◌≢◌, List}
 use Rattle.std.specs.List.{AllByRecursion}
 use Rattle.model.specs.Remains.{Family, family, Only, Heeds}
 use Rattle.propagation.specs.declared.records.Assignment.{Assignment}
@@ -17,7 +17,6 @@ Forced k nogood w = AllByRecursion (λ v. v ≢ w → Only k v) nogood
 abbrev pub Good : List ℕ → List Assignment → List ℕ → Type 0
 Good ms s nogood = AllByRecursion (λ v. noted s v ≡ false) nogood → Heeds (family ms) nogood
 
--- A nogood need not be looked at for an assignment that it does not have. (Where no assignment is named each is looked at.)
-abbrev pub Spared : Option ℕ → List ℕ → Type 0
-Spared None nogood = ⊥
-Spared (Some v) nogood = AllByRecursion (λ x. x ≢ v) nogood
+-- A nogood need not be looked at for an assignment that it does not have.
+abbrev pub Spared : ℕ → List ℕ → Type 0
+Spared v nogood = AllByRecursion (λ x. x ≢ v) nogood

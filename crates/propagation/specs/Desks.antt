@@ -12,12 +12,14 @@ use Rattle.propagation.specs.Supports.{Supported, Inside}
 use Rattle.propagation.specs.Wires.{Wired}
 use Rattle.propagation.specs.Settling.{noted, Settled}
 use Rattle.propagation.specs.Bases.{Grouped}
+use Rattle.propagation.specs.Indexed.{Knows}
 
--- The later desk has the book, the chains, the base and the regions of the earlier one.
+-- The later desk has the book, the chains, the base, the index and the regions of the earlier one.
 pub record SameDesk {B : Type 0} (d d' : Desk B) : Type 0 where
   pub book : d'.book ≡ d.book
   pub wires : d'.wires ≡ d.wires
   pub base : d'.base ≡ d.base
+  pub index : d'.index ≡ d.index
   pub domains : d'.domains.ghost_name ≡ d.domains.ghost_name
   pub groups : length d'.domains.now ≡ length d.domains.now
   pub line : SameLine d.line d'.line
@@ -30,6 +32,11 @@ pub record Fitted {B : Type 0} (m : Meaning) (d : Desk B) : Type 0 where
   pub groups : length d.domains.now ≡ m.groups
   pub rules : d.line.rules ≡ m.count
   pub room : length d.domains.now ≤ size d.settled
+
+-- The base can be walked: its nogoods are of groups of the book, and the index knows it.
+pub record Based {B : Type 0} (m : Meaning) (d : Desk B) : Type 0 where
+  pub grouped : AllByRecursion (Grouped m.groups) (base_of d.base.now)
+  pub known : Knows d.base.now d.index.now
 
 -- The desk is in order.
 pub record Held {B : Type 0} (m : Meaning) (d : Desk B) : Type 0 where
@@ -48,6 +55,6 @@ pub record Step {B : Type 0} (m : Meaning) (d d' : Desk B) : Type 0 where
 -- The desk is laid out: nothing waits.
 pub record Laid {B : Type 0} (m : Meaning) (d : Desk B) : Type 0 where
   pub fits : Fitted m d
-  pub grouped : AllByRecursion (Grouped m.groups) (base_of d.base.now)
+  pub based : Based m d
   pub no_ends : queued d.line.ends ≡ []
   pub no_settled : queued d.settled ≡ []

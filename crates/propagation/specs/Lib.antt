@@ -4,9 +4,12 @@ pub mod Waits
 pub mod Lines
 pub mod Settling
 pub mod Supports
+pub mod Chains
 pub mod Wires
 pub mod Desks
 pub mod Bases
+pub mod Indexed
+pub mod Links
 pub mod Calms
 pub mod Filtered
 pub mod Takings

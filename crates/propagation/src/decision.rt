@@ -9,14 +9,15 @@ ghost use Rattle.propagation.specs.Supports.{Inside};
 ghost use Rattle.propagation.specs.Settling.{Emptied};
 ghost use Rattle.propagation.specs.Desks.{SameDesk, Laid};
 ghost use Rattle.propagation.specs.Bases.{Grouped};
+ghost use Rattle.propagation.specs.Links.{Linked};
 ghost use Rattle.propagation.specs.Calms.{Agrees};
 ghost use Rattle.propagation.specs.Filtered.{Lives, Dies};
 ghost use Rattle.propagation.specs.Benches.{SameRegions, Roomy, Beyond};
 
 use super::bench::{Bench, Dead};
 use super::desk::Desk;
+use super::links::Links;
 use super::start::alone;
-use super::wires::{CHAINS, wire};
 use model::decision::{channel_of, group_of};
 use rules::book::RuleBook;
 
@@ -65,11 +66,13 @@ pub fn propagate_decision<B: RuleBook>(
     book: &B,
     branch: &[u32],
     base: &[u32],
+    links: &Links,
     bench: &mut Bench<'_>,
 ) -> Result<(), Dead>
     requires groups { length lists.now ≡ (B.meaning book.now).groups }
     requires narrow { length lists.now ≤ 200 }
     requires rules { (B.meaning book.now).count ≤ 4096 }
+    requires linked { Linked (B.meaning book.now) base.now links.now }
     requires roomy { Roomy (length lists.now) (B.meaning book.now).count (length bench.old.domains.now) (length bench.old.marks.now) (length bench.old.ends.now) (length bench.old.settled.now) }
     requires grouped { AllByRecursion (Grouped (length lists.now)) (base_of base.now) }
     requires some { 0 < length branch.now }
@@ -85,13 +88,12 @@ pub fn propagate_decision<B: RuleBook>(
     let places = 2 * book.count() as usize;
     // In an array, as in `propagate`, which starts otherwise and lays out its desk in the same lines: no function can hand a desk out.
     let mut remain = [0u64; 200];
-    let mut wires = [None; CHAINS];
-    wire(book, &mut wires);
     bench.read(&mut remain[0..n]);
     let mut desk = Desk::over(
         book,
-        &wires,
+        &links.wires,
         base,
+        &links.index,
         &mut remain[0..n],
         &mut bench.marks[0..256],
         &mut bench.ends[0..places],

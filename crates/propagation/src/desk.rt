@@ -5,13 +5,15 @@ ghost use Rattle.model.specs.Words.{base_of};
 ghost use Rattle.propagation.specs.Wires.{Wired};
 ghost use Rattle.propagation.specs.Bases.{Grouped};
 ghost use Rattle.propagation.specs.Desks.{Laid};
+ghost use Rattle.propagation.specs.Indexed.{Knows};
 
+use super::index::Index;
 use super::line::Line;
 use super::records::{Assignment, RuleEnd};
 use super::ring::Ring;
 use rules::book::RuleBook;
 
-// A book with its chains and the base, what remains of the lists, and the two lines of what waits to be looked at.
+// A book with its chains and the base with its index, what remains of the lists, and the two lines of what waits to be looked at.
 // That it is in order is a clause (`Held`) and no ghost field: that every group keeps something is a part of it, and ends with `Dead`.
 // That it fits its book is none either: a field that names what the book stands for would make the type take one argument more.
 #[derive(Drop)]
@@ -19,6 +21,7 @@ pub struct Desk<'d, B: RuleBook> {
     pub book: &'d B,
     pub wires: &'d [Option<u16>],
     pub base: &'d [u32],
+    pub index: &'d Index,
     pub domains: &'d mut [u64],
     pub line: Line<'d>,
     pub settled: Ring<'d, Assignment>,
@@ -31,6 +34,7 @@ impl<'d, B: RuleBook> Desk<'d, B> {
         book: &'d B,
         wires: &'d [Option<u16>],
         base: &'d [u32],
+        index: &'d Index,
         domains: &'d mut [u64],
         marks: &'d mut [u32],
         ends: &'d mut [RuleEnd],
@@ -39,6 +43,7 @@ impl<'d, B: RuleBook> Desk<'d, B> {
         requires wired { Wired (B.meaning book.now) wires.now }
         requires groups { length domains.old ≡ (B.meaning book.now).groups }
         requires grouped { AllByRecursion (Grouped (B.meaning book.now).groups) (base_of base.now) }
+        requires known { Knows base.now index.now }
         requires words { length marks.old ≡ 256 }
         requires places { 2 * (B.meaning book.now).count ≤ length ends.old }
         requires slots { length domains.old ≤ length settled.old }
@@ -55,6 +60,7 @@ impl<'d, B: RuleBook> Desk<'d, B> {
             book,
             wires,
             base,
+            index,
             domains,
             line: Line::over(ends, marks, book.count()),
             settled: Ring::over(settled),

@@ -9,14 +9,15 @@ ghost use Rattle.propagation.specs.Supports.{Inside};
 ghost use Rattle.propagation.specs.Settling.{Emptied};
 ghost use Rattle.propagation.specs.Desks.{SameDesk, Laid};
 ghost use Rattle.propagation.specs.Bases.{Grouped};
+ghost use Rattle.propagation.specs.Links.{Linked};
 ghost use Rattle.propagation.specs.Calms.{Agrees};
 ghost use Rattle.propagation.specs.Filtered.{Lives, Dies};
 ghost use Rattle.propagation.specs.Benches.{SameRegions, Roomy, Beyond};
 
 use super::bench::{Bench, Dead};
 use super::desk::Desk;
+use super::links::Links;
 use super::start::{decide_all, some_empty};
-use super::wires::{CHAINS, wire};
 use rules::book::RuleBook;
 
 // The lists after the decisions.
@@ -50,7 +51,7 @@ impl<'d, B: RuleBook> Desk<'d, B> {
         ensures agrees { OnOk result (Agrees (B.meaning self.old.book.now) (base_of self.old.base.now) (family self.new.domains.now)) }
     {
         self.line.add_all();
-        self.heed_all(None)?;
+        self.heed_all()?;
         self.work()
     }
 
@@ -76,11 +77,13 @@ pub fn propagate<B: RuleBook>(
     book: &B,
     branch: &[u32],
     base: &[u32],
+    links: &Links,
     bench: &mut Bench<'_>,
 ) -> Result<(), Dead>
     requires groups { length lists.now ≡ (B.meaning book.now).groups }
     requires narrow { length lists.now ≤ 200 }
     requires rules { (B.meaning book.now).count ≤ 4096 }
+    requires linked { Linked (B.meaning book.now) base.now links.now }
     requires roomy { Roomy (length lists.now) (B.meaning book.now).count (length bench.old.domains.now) (length bench.old.marks.now) (length bench.old.ends.now) (length bench.old.settled.now) }
     requires decided { (i : ℕ) → i < length branch.now → grp (assigned (decision (slice_index branch.now i))) < length lists.now }
     requires grouped { AllByRecursion (Grouped (length lists.now)) (base_of base.now) }
@@ -93,12 +96,11 @@ pub fn propagate<B: RuleBook>(
     let places = 2 * book.count() as usize;
     // The work goes on in an array: of a region in a desk the check does not learn what it is left as.
     let mut remain = [0u64; 200];
-    let mut wires = [None; CHAINS];
-    wire(book, &mut wires);
     let mut desk = Desk::over(
         book,
-        &wires,
+        &links.wires,
         base,
+        &links.index,
         &mut remain[0..n],
         &mut bench.marks[0..256],
         &mut bench.ends[0..places],

@@ -1,32 +1,24 @@
 // The walk over the base.
-ghost use Rattle.std.specs.Prelude.{◌≡◌, true, OnOk, OnErr};
+ghost use Rattle.std.specs.Prelude.{OnOk, OnErr};
 ghost use Rattle.std.specs.List.{AllByRecursion};
 ghost use Rattle.propagation.specs.Waiting.{queued};
 ghost use Rattle.model.specs.Remains.{Family, family, Heeds};
 ghost use Rattle.model.specs.Words.{base_of};
 ghost use Rattle.propagation.specs.Supports.{Inside};
 ghost use Rattle.propagation.specs.Settling.{Emptied};
-ghost use Rattle.propagation.specs.Desks.{SameDesk, Held, Step};
-ghost use Rattle.propagation.specs.Bases.{Grouped, Good, Spared};
+ghost use Rattle.propagation.specs.Desks.{SameDesk, Held, Based, Step};
+ghost use Rattle.propagation.specs.Bases.{Good};
 
 use super::bench::Dead;
 use super::desk::Desk;
 use model::base::Nogoods;
 use rules::book::RuleBook;
 
-// Whether the nogood need not be looked at.
-pub fn spared(just: Option<u32>, nogood: &[u32]) -> bool
-    ensures { result ≡ true → Spared just nogood.now }
-{
-    just.is_some_and(|v| !nogood.contains(&v))
-}
-
 impl<'d, B: RuleBook> Desk<'d, B> {
-    // Looks at every nogood that is not spared.
-    pub fn heed_all(&mut self, just: Option<u32>) -> Result<(), Dead>
+    // Looks at every nogood.
+    pub fn heed_all(&mut self) -> Result<(), Dead>
         requires held { Held (B.meaning self.old.book.now) self.old }
-        requires grouped { AllByRecursion (Grouped (B.meaning self.old.book.now).groups) (base_of self.old.base.now) }
-        requires others { AllByRecursion (λ n. Spared just n → Good self.old.domains.now (queued self.old.settled) n) (base_of self.old.base.now) }
+        requires based { Based (B.meaning self.old.book.now) self.old }
         ensures same { SameDesk self.old self.new }
         ensures within { (k : Family) → AllByRecursion (Heeds k) (base_of self.old.base.now) → Inside k (family self.old.domains.now) → Inside k (family self.new.domains.now) }
         ensures dead { OnErr result (Emptied self.new.domains.now) }
@@ -35,9 +27,7 @@ impl<'d, B: RuleBook> Desk<'d, B> {
         ensures good { OnOk result (AllByRecursion (Good self.new.domains.now (queued self.new.settled)) (base_of self.old.base.now)) }
     {
         for (_, nogood) in Nogoods(self.base) {
-            if !spared(just, nogood) {
-                self.look(nogood)?;
-            }
+            self.look(nogood)?;
         }
         Ok(())
     }

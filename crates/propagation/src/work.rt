@@ -1,12 +1,10 @@
 // Takes what waits, until nothing does.
 ghost use Rattle.std.specs.Prelude.{◌≡◌, OnOk, OnErr, IfOk};
-ghost use Rattle.std.specs.List.{AllByRecursion};
 ghost use Rattle.model.specs.Remains.{Family, family};
 ghost use Rattle.model.specs.Words.{base_of};
 ghost use Rattle.propagation.specs.Supports.{Inside};
 ghost use Rattle.propagation.specs.Settling.{Emptied};
-ghost use Rattle.propagation.specs.Desks.{SameDesk, Held};
-ghost use Rattle.propagation.specs.Bases.{Grouped};
+ghost use Rattle.propagation.specs.Desks.{SameDesk, Held, Based};
 ghost use Rattle.propagation.specs.Calms.{Agrees, Going, Turned};
 
 use super::bench::Dead;
@@ -17,7 +15,7 @@ impl<'d, B: RuleBook> Desk<'d, B> {
     // Takes one of what waits, settled assignments first. Answers whether there was any.
     pub fn take_turn(&mut self) -> Result<bool, Dead>
         requires held { Held (B.meaning self.old.book.now) self.old }
-        requires grouped { AllByRecursion (Grouped (B.meaning self.old.book.now).groups) (base_of self.old.base.now) }
+        requires based { Based (B.meaning self.old.book.now) self.old }
         requires going { Going (B.meaning self.old.book.now) self.old }
         ensures same { SameDesk self.old self.new }
         ensures within { (k : Family) → Agrees (B.meaning self.old.book.now) (base_of self.old.base.now) k → Inside k (family self.old.domains.now) → Inside k (family self.new.domains.now) }
@@ -25,7 +23,7 @@ impl<'d, B: RuleBook> Desk<'d, B> {
         ensures turned { IfOk result (Turned (B.meaning self.old.book.now) self.old self.new) }
     {
         if let Some(a) = self.settled.pop() {
-            self.heed_all(Some(u32::from(a)))?;
+            self.heed(u32::from(a))?;
             return Ok(true);
         }
         if let Some(e) = self.line.take() {
@@ -38,7 +36,7 @@ impl<'d, B: RuleBook> Desk<'d, B> {
     // Turns, until nothing waits or a group keeps nothing.
     pub fn work(&mut self) -> Result<(), Dead>
         requires held { Held (B.meaning self.old.book.now) self.old }
-        requires grouped { AllByRecursion (Grouped (B.meaning self.old.book.now).groups) (base_of self.old.base.now) }
+        requires based { Based (B.meaning self.old.book.now) self.old }
         requires going { Going (B.meaning self.old.book.now) self.old }
         ensures same { SameDesk self.old self.new }
         ensures within { (k : Family) → Agrees (B.meaning self.old.book.now) (base_of self.old.base.now) k → Inside k (family self.old.domains.now) → Inside k (family self.new.domains.now) }

@@ -42,5 +42,9 @@ pub listed_word : (lists ws : List ℕ) (n : ℕ) → Branch lists (branch_of ws
 listed_word lists ws zero b i h = absurd (not-suc-le-zero h)
 listed_word lists ws (suc n) b i h = elim (cases_eq i n) [ inl e ↦ rw e b.0 | inr ne ↦ listed_word lists ws n b.2 i (omega arith) ]
 
+-- The groups of at most 200 lists are below 200.
+pub small_base : (lists : List ℕ) (ns : List (List ℕ)) → length lists ≤ 200 → AllByRecursion (Nogood lists) ns → AllByRecursion (Grouped 200) ns
+small_base lists ns l h = All-weaker (Nogood lists) (Grouped 200) (λ n k. All-weaker (Assignment lists) (λ v. v / 64 < 200) (λ v a. omega (arith, a.group)) n k.listed) ns h
+
 pub all_grouped : (lists : List ℕ) (ns : List (List ℕ)) → AllByRecursion (Nogood lists) ns → AllByRecursion (Grouped (length lists)) ns
 all_grouped lists ns h = All-weaker (Nogood lists) (Grouped (length lists)) (λ n k. All-weaker (Assignment lists) (λ v. v / 64 < length lists) (λ v a. a.group) n k.listed) ns h

@@ -9,6 +9,7 @@ use Rattle.model.specs.Words.{decision, branch_of, base_of, recorded}
 use Rattle.model.specs.Moves.{State, start, nogoods, closing, restarting, deciding}
 use Rattle.model.proofs.Words.{is_taken, is_refused, write_taken, write_refused}
 use Rattle.model.proofs.Bases.{base_recorded}
+use Rattle.propagation.proofs.Indexing.{recorded_join}
 use Rattle.laws.specs.Sittings.{blamed}
 use Rattle.laws.proofs.Refusals.{words_append}
 use Rattle.search.specs.declared.held.Progress.{Progress}
@@ -60,10 +61,6 @@ deciding_state p branch base w l s =
     (ap (branch_of (set branch p.branch_len w)) (plus_one p.branch_len) ∙ write_taken branch p.branch_len w l s)
     refl (plus_one p.counts.moves) refl refl refl
 
-pub recorded_join : (ns ms : List (List ℕ)) → recorded (ns ++ ms) ≡ recorded ns ++ recorded ms
-recorded_join [] ms = refl
-recorded_join (n ∷ ns) ms = ap (λ r. (length n ∷ n) ++ r) (recorded_join ns ms) ∙ sym (append_assoc (length n ∷ n) (recorded ns) (recorded ms))
-
 -- The used words after the nogoods of the branch were written behind them.
 module _ (p : Progress) (branch base base' : List ℕ) (l : p.base_used ≤ length base)
     (sound : take p.base_used base ≡ recorded (base_of (take p.base_used base)))
@@ -93,6 +90,9 @@ module _ (p : Progress) (branch base base' : List ℕ) (l : p.base_used ≤ leng
   restarting_state =
       same_made _ _ _ _ _ _ _ _ _ _ _ _
       refl (ap base_of used_words_lem ∙ base_recorded (nogoods (state_of p branch base))) (plus_one p.counts.moves) refl (plus_one p.counts.restarts) refl
+
+  pub restarted_base : base_of (take (p.base_used + length (recorded (reduced (branch_of branch p.branch_len)))) base') ≡ nogoods (state_of p branch base)
+  restarted_base = ap base_of used_words_lem ∙ base_recorded (nogoods (state_of p branch base))
 
   pub restarted_words : take (p.base_used + length (recorded (reduced (branch_of branch p.branch_len)))) base'
       ≡ recorded (base_of (take (p.base_used + length (recorded (reduced (branch_of branch p.branch_len)))) base'))

@@ -1,5 +1,7 @@
 -- What a turn does to the numbers and the words is a turn of the search that they stand for.
-use Rattle.std.proofs.Common.{◌≡◌, ℕ, zero, suc, ◌+◌, ◌-◌, ◌*◌, ◌<◌, List, ◌∷◌, length, get_or, take, sym, refl, ap, ◌∙◌, subst, inl, inr, arith}
+use Rattle.std.proofs.Common.{◌≡◌, ℕ, zero, suc, ◌+◌, ◌-◌, ◌*◌, ◌<◌, ◌≤◌, List, ◌∷◌, length, get_or, take, sym, refl, ap, ◌∙◌, subst, inl, inr, arith}
+use Rattle.std.specs.List.{AllByRecursion}
+use Rattle.std.proofs.ByRecursion.{All-append}
 use Rattle.std.proofs.lemmas.Bool.{cases_lt}
 use Rattle.rules.specs.Meanings.{Meaning, Lawful}
 use Rattle.branching.specs.Channels.{Open}
@@ -7,14 +9,15 @@ use Rattle.branching.specs.Order.{OrderMeaning, Lawful as LawfulMeaning}
 use Rattle.branching.specs.Policy.{PolicyMeaning, LawfulPolicy}
 use Rattle.branching.specs.Bits.{counts_two, below_pow}
 use Rattle.model.specs.Masks.{grp, chan}
-use Rattle.model.specs.Decisions.{taken, refused}
+use Rattle.model.specs.Decisions.{taken, refused, reduced, Nogood}
 use Rattle.model.specs.Words.{decision, branch_of, base_of}
 use Rattle.model.specs.Remains.{family, Dead, Alive}
-use Rattle.model.specs.Moves.{State, deciding}
-use Rattle.model.proofs.Formed.{Whole, whole_move, free}
+use Rattle.model.specs.Moves.{State, nogoods, deciding}
+use Rattle.model.proofs.Formed.{Whole, whole_move, free, reduced_nogoods}
 use Rattle.model.proofs.Marked.{branch_few}
 use Rattle.model.proofs.Remains.{remains_one}
 use Rattle.model.proofs.Words.{is_refused}
+use Rattle.propagation.specs.Bases.{Grouped}
 use Rattle.propagation.specs.Filtered.{Lives, Dies}
 use Rattle.laws.specs.Orders.{behaviour, cutoffs}
 use Rattle.laws.specs.Sittings.{begun, Leaves, dead, wide, close, restart, decide, after_close, after_restart, after_decide}
@@ -27,6 +30,7 @@ use Rattle.search.specs.declared.held.Progress.{Progress}
 use Rattle.search.specs.declared.turns.Step.{Step}
 use Rattle.search.specs.declared.turns.Step.TheVariants.{None as EndsNone, Plan, Spent, Made}
 use Rattle.search.specs.declared.turns.Move.TheVariants.{Close, Restart, Decide}
+use Rattle.search.proofs.Fronts.{small_base}
 use Rattle.search.specs.Turns.{state_of, Fit, Fresh, DeadTurn, AliveTurn, Moved, Turned}
 
 pub length_branch_of : (ws : List ℕ) (n : ℕ) → length (branch_of ws n) ≡ n
@@ -99,6 +103,10 @@ module _ {H Q : Type 0} (lists : List ℕ) (book : Meaning) (om : OrderMeaning H
     turned_whole Plan t w = subst (Whole lists) (sym t.0.state) w
     turned_whole Spent t w = subst (Whole lists) (sym t.0.state) w
     turned_whole (Made _) t w = moved_whole t w
+
+-- The nogoods of a sound state, and those of its branch, have groups below 200.
+pub small_nogoods : (lists : List ℕ) (s : State) → length lists ≤ 200 → Whole lists s → AllByRecursion (Grouped 200) (nogoods s)
+small_nogoods lists s l w = small_base lists (nogoods s) l (All-append (Nogood lists) s.base (reduced s.branch) w.base (reduced_nogoods lists s.branch w.branch))
 
 pub fit_whole : (lists : List ℕ) (p : Progress) (branch base : List ℕ) → Fit lists p branch base → Whole lists (state_of p branch base)
 fit_whole lists p branch base f = record { branch = f.sound; base = f.nogoods }

@@ -8,7 +8,7 @@ ghost use Rattle.search.specs.Restarts.{RestartAnswers};
 use crate::held::{OpenSearch, Progress, Sat, SettledSearch};
 use crate::moves::restart as restart_move;
 use crate::regions::Regions;
-use crate::turns::{Step, turn};
+use crate::turns::{Step, links_of, turn};
 use crate::vetting::{vet_open, vet_restart, vet_sitting};
 use branching::{Order, RestartPolicy};
 use rules::book::RuleBook;
@@ -57,11 +57,15 @@ pub fn sitting<B: RuleBook, O: Order, P: RestartPolicy>(
         return Err((refusal, search));
     }
     let OpenSearch { groups, mut at } = search;
+    let base = &mut *regions.base;
+    let mut links = links_of(book, &at, base);
     let mut left = allowance;
     let mut last = None;
     // A loop: its ends are answers of the turn.
     'moves: loop {
-        match turn(last, lists, book, order, policy, left, &mut at, regions) {
+        match turn(
+            last, lists, book, order, policy, left, &mut at, &mut links, regions,
+        ) {
             Step::None => return Ok(Sat::None(SettledSearch { counts: at.counts })),
             Step::Plan => {
                 let domains = &mut *regions.domains;

@@ -1,7 +1,12 @@
 // One turn of a sitting: what remains, and then an end, a stop, or the first move that applies.
 ghost use Rattle.std.specs.Prelude.{◌≡◌, ℕ, ◌+◌, ◌*◌, ◌<◌, ◌≤◌, true, false, List, length, take, drop, Some, OnOk, OnErr};
 ghost use Rattle.branching.specs.Channels.{Open};
+ghost use Rattle.std.specs.List.{AllByRecursion};
 ghost use Rattle.model.specs.Words.{branch_of, base_of, recorded};
+ghost use Rattle.model.specs.Moves.{nogoods};
+ghost use Rattle.propagation.specs.Bases.{Grouped};
+ghost use Rattle.propagation.specs.Indexed.{Knows};
+ghost use Rattle.propagation.specs.Links.{Linked};
 ghost use Rattle.propagation.specs.Filtered.{Lives, Dies};
 ghost use Rattle.propagation.specs.Benches.{Roomy, Beyond};
 ghost use Rattle.search.specs.Counts.{Counted};
@@ -16,6 +21,7 @@ use branching::{Order, RestartPolicy};
 use propagation::bench::{Bench, Dead};
 use propagation::decision::propagate_decision;
 use propagation::filter::propagate;
+use propagation::links::Links;
 use propagation::records::{Assignment, RuleEnd};
 use rules::book::RuleBook;
 
@@ -78,6 +84,7 @@ fn turn_alive<O: Order, P: RestartPolicy>(
     domains: &[u64],
     branch: &mut [u32],
     base: &mut [u32],
+    links: &mut Links,
 ) -> Step
     requires few { length domains.now ≤ 200 }
     requires within { at.old.branch_len ≤ 64 * length domains.now }
@@ -86,12 +93,16 @@ fn turn_alive<O: Order, P: RestartPolicy>(
     requires used { at.old.base_used ≤ length base.old }
     requires short { length base.old ≤ 65536 }
     requires words { take at.old.base_used base.old ≡ recorded (base_of (take at.old.base_used base.old)) }
+    requires small { AllByRecursion (Grouped 200) (nogoods (state_of at.old branch.old base.old)) }
+    requires known { Knows (take at.old.base_used base.old) links.old.index }
     requires counted { Counted left at.old }
     ensures turn { AliveTurn O.Order.meaning P.RestartPolicy.meaning (length base.old) left domains.now (O.Order.held order.old) (O.Order.held order.new) (P.RestartPolicy.held policy.old) (P.RestartPolicy.held policy.new) (state_of at.old branch.old base.old) (state_of at.new branch.new base.new) result }
     ensures within { at.new.branch_len ≤ 64 * length domains.now }
     ensures used { at.new.base_used ≤ length base.new }
     ensures words { take at.new.base_used base.new ≡ recorded (base_of (take at.new.base_used base.new)) }
     ensures kept { KeptWords (length domains.now) at.old.base_used at.new.base_used branch.old branch.new base.old base.new }
+    ensures known { Knows (take at.new.base_used base.new) links.new.index }
+    ensures wires { links.new.wires ≡ links.old.wires }
 {
     if !some_wide(domains) {
         return Step::Plan;
@@ -100,11 +111,28 @@ fn turn_alive<O: Order, P: RestartPolicy>(
         return Step::Spent;
     }
     if is_due(policy, at, branch, base) {
+        let used = at.base_used as usize;
         restart(policy, at, branch, base);
+        links.add(&base[..at.base_used as usize], used);
         return Step::Made(Move::Restart);
     }
     decide(order, at, domains, branch);
     Step::Made(Move::Decide)
+}
+
+// The chains of the book, and the index of the nogoods that are recorded.
+pub(crate) fn links_of<B: RuleBook>(book: &B, at: &Progress, base: &[u32]) -> Links
+    requires groups { (B.meaning book.now).groups ≤ 200 }
+    requires rules { (B.meaning book.now).count ≤ 4096 }
+    requires used { at.now.base_used ≤ length base.now }
+    requires short { length base.now ≤ 65536 }
+    requires words { take at.now.base_used base.now ≡ recorded (base_of (take at.now.base_used base.now)) }
+    requires small { AllByRecursion (Grouped 200) (base_of (take at.now.base_used base.now)) }
+    ensures { Linked (B.meaning book.now) (take at.now.base_used base.now) result }
+{
+    let mut links = Links::new(book);
+    links.add(&base[..at.base_used as usize], 0);
+    links
 }
 
 // What remains in the state that the numbers and the words stand for, unless it is dead; after a decision, from what remained before it.
@@ -116,6 +144,7 @@ fn refresh<B: RuleBook>(
     at: &Progress,
     branch: &[u32],
     base: &[u32],
+    links: &Links,
     domains: &mut [u64],
     marks: &mut [u32],
     ends: &mut [RuleEnd],
@@ -125,6 +154,7 @@ fn refresh<B: RuleBook>(
     requires groups { (B.meaning book.now).groups ≡ length lists.now }
     requires rules { (B.meaning book.now).count ≤ 4096 }
     requires roomy { Roomy (length lists.now) (B.meaning book.now).count (length domains.old) (length marks.old) (length ends.old) (length settled.old) }
+    requires linked { Linked (B.meaning book.now) (take at.now.base_used base.now) links.now }
     requires fresh { last ≡ Some Move.Decide → Fresh lists.now (B.meaning book.now) at.now branch.now base.now domains.old }
     ensures dead { OnErr result (Dies lists.now (B.meaning book.now) (base_of (take at.now.base_used base.now)) (branch_of branch.now at.now.branch_len)) }
     ensures lives { OnOk result (Lives lists.now (B.meaning book.now) (base_of (take at.now.base_used base.now)) (branch_of branch.now at.now.branch_len) (take (length lists.now) domains.new)) }
@@ -140,8 +170,8 @@ fn refresh<B: RuleBook>(
     };
     // Two calls with the same arguments, of which a closure would say no more.
     match last {
-        Some(Move::Decide) => propagate_decision(lists, book, branch, base, &mut bench),
-        _ => propagate(lists, book, branch, base, &mut bench),
+        Some(Move::Decide) => propagate_decision(lists, book, branch, base, links, &mut bench),
+        _ => propagate(lists, book, branch, base, links, &mut bench),
     }
 }
 
@@ -154,6 +184,7 @@ pub(crate) fn turn<B: RuleBook, O: Order, P: RestartPolicy>(
     policy: &mut P,
     left: u32,
     at: &mut Progress,
+    links: &mut Links,
     regions: &mut Regions<'_>,
 ) -> Step
     requires fit { Fit lists.now at.old regions.old.branch.now regions.old.base.now }
@@ -161,10 +192,12 @@ pub(crate) fn turn<B: RuleBook, O: Order, P: RestartPolicy>(
     requires groups { (B.RuleBook.meaning book.now).groups ≡ length lists.now }
     requires rules { (B.RuleBook.meaning book.now).count ≤ 4096 }
     requires roomy { Roomy (length lists.now) (B.RuleBook.meaning book.now).count (length regions.old.domains.now) (length regions.old.marks.now) (length regions.old.ends.now) (length regions.old.settled.now) }
+    requires linked { Linked (B.RuleBook.meaning book.now) (take at.old.base_used regions.old.base.now) links.old }
     requires fresh { last ≡ Some Move.Decide → Fresh lists.now (B.RuleBook.meaning book.now) at.old regions.old.branch.now regions.old.base.now regions.old.domains.now }
     ensures same { SameRegions regions.old regions.new }
     ensures turned { Turned lists.now (B.RuleBook.meaning book.now) O.Order.meaning P.RestartPolicy.meaning (length regions.old.base.now) left (take (length lists.now) regions.new.domains.now) (O.Order.held order.old) (O.Order.held order.new) (P.RestartPolicy.held policy.old) (P.RestartPolicy.held policy.new) (state_of at.old regions.old.branch.now regions.old.base.now) (state_of at.new regions.new.branch.now regions.new.base.now) result }
     ensures fit { Fit lists.now at.new regions.new.branch.now regions.new.base.now }
+    ensures linked { Linked (B.RuleBook.meaning book.now) (take at.new.base_used regions.new.base.now) links.new }
     ensures fresh { result ≡ Step.Made Move.Decide → Fresh lists.now (B.RuleBook.meaning book.now) at.new regions.new.branch.now regions.new.base.now regions.new.domains.now }
     ensures beyond { Beyond (length lists.now) (B.RuleBook.meaning book.now).count regions.old.domains.now regions.new.domains.now regions.old.marks.now regions.new.marks.now regions.old.ends.now regions.new.ends.now regions.old.settled.now regions.new.settled.now }
     ensures kept { KeptWords (length lists.now) at.old.base_used at.new.base_used regions.old.branch.now regions.new.branch.now regions.old.base.now regions.new.base.now }
@@ -180,6 +213,7 @@ pub(crate) fn turn<B: RuleBook, O: Order, P: RestartPolicy>(
         at,
         branch,
         base,
+        links,
         domains,
         regions.marks,
         regions.ends,
@@ -189,5 +223,5 @@ pub(crate) fn turn<B: RuleBook, O: Order, P: RestartPolicy>(
         return turn_dead(order, left, at, branch);
     }
     let (remain, _) = domains.split_at(lists.len());
-    turn_alive(order, policy, left, at, remain, branch, base)
+    turn_alive(order, policy, left, at, remain, branch, base, links)
 }

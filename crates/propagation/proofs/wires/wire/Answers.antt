@@ -1,5 +1,6 @@
 use Rattle.std.proofs.Common.{ℕ, List, length, get_or, Option, None, ap, ◌∙◌, arith}
-use Rattle.propagation.proofs.Wiring.{nones, only_none, chained_none, chained_wired}
+use Rattle.propagation.proofs.Chaining.{nones, only_none}
+use Rattle.propagation.proofs.Wiring.{chained_none, chained_wired}
 use Rattle.propagation.proofs.wires.wire.Goals as goal
 
 pub loop-i-init : goal.loop-i-init

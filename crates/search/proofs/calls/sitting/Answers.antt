@@ -10,6 +10,7 @@ use Rattle.laws.proofs.Runs.{refused_continues}
 use Rattle.search.specs.Sittings.{lent_in, request}
 use Rattle.search.specs.Regions.{sizes}
 use Rattle.search.proofs.Ready.{ready}
+use Rattle.search.proofs.Fronts.{small_base}
 use Rattle.search.proofs.Along.{at, along_more, comes, settles, found_open, held_bounds, same_then, single}
 use Rattle.search.proofs.calls.sitting.Goals as goal
 
@@ -32,7 +33,21 @@ moves-init g c =
         plan = refl;
       },
       search rules,
+      c.links_of-links.ensures,
     )
+
+pub links_of-links-requires : goal.links_of-links-requires
+links_of-links-requires g c =
+    let found = lent_in c.args.regions.now c.args.order.now c.args.policy.now in
+    let r = ready (g.B.RuleBook.meaning c.args.book.now) c.args.search c.args.lists.now c.args.allowance found c.in_default.ensures in
+    record {
+      groups = omega (arith, r.groups, r.fit.few);
+      rules = r.rules;
+      used = r.fit.base_in;
+      short = r.fit.base_room;
+      words = r.fit.words;
+      small = small_base c.args.lists.now _ r.fit.few r.fit.nogoods;
+    }
 
 pub turn-requires : goal.turn-requires
 turn-requires g c =
@@ -51,6 +66,7 @@ turn-requires g c =
         ends = omega (arith, r.roomy.ends, k.ends_size);
         settled = omega (arith, r.roomy.settled, k.settled_size);
       };
+      linked = c.moves.invariant.2;
       fresh = i.fresh;
     }
 
@@ -65,6 +81,7 @@ moves-preserved g c =
           c.moves.left c.moves.last (Some c.in-Made.made) c.moves.at c.turn.new.at here next (take (length lists) c.turn.new.regions.domains.now) c.moves.invariant.0
           e.turned e.fit (λ q. e.fresh (search rules)) e.beyond e.kept e.plan e.same.base_size,
       same_then c.args.regions.now c.moves.regions c.turn.new.regions c.moves.invariant.1 e.same,
+      e.linked,
     )
 
 pub returns-in-None-clause-answers : goal.returns-in-None-clause-answers

@@ -1,3 +1,5 @@
+use Rattle.std.proofs.Common.{take}
+use Rattle.propagation.specs.Links.{Linked}
 use Rattle.search.specs.Regions.{SameRegions}
 use Rattle.search.specs.Sittings.{lent_in}
 use Rattle.search.proofs.Along.{Along}
@@ -7,7 +9,7 @@ abbrev pub invariant-moves : goal.invariant-moves
 invariant-moves g l =
     Along g.O.Order.meaning g.P.RestartPolicy.meaning g.O.Order.held g.P.RestartPolicy.held (g.B.RuleBook.meaning l.book) l.lists l.allowance l.initial.at
     (lent_in l.initial.regions l.initial.order l.initial.policy) l.left l.last l.at (lent_in l.regions l.order l.policy)
-    × SameRegions l.initial.regions l.regions
+    × SameRegions l.initial.regions l.regions × Linked (g.B.RuleBook.meaning l.book) (take l.at.base_used l.regions.base.now) l.links
 
 abbrev pub decreases-moves : goal.decreases-moves
 decreases-moves g l = l.left

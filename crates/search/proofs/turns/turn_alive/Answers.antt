@@ -1,9 +1,12 @@
-use Rattle.std.proofs.Common.{◌≡◌, ◌+◌, ◌*◌, ◌++◌, length, take, drop, sym, refl, ap, ◌∙◌, arith}
+use Rattle.std.proofs.Common.{◌≡◌, ◌+◌, ◌*◌, ◌++◌, length, take, drop, sym, refl, ap, ◌∙◌, subst, arith}
 use Rattle.model.specs.Decisions.{reduced}
 use Rattle.model.specs.Words.{branch_of, base_of, recorded}
 use Rattle.search.specs.declared.held.Progress.{Progress}
+use Rattle.std.specs.List.{AllByRecursion}
+use Rattle.propagation.specs.Bases.{Grouped}
+use Rattle.propagation.specs.Indexed.{Knows}
 use Rattle.search.specs.Turns.{state_of, decided_at}
-use Rattle.search.proofs.States.{all_words, restarting_state, restarted_words, past_words, deciding_state, past_set}
+use Rattle.search.proofs.States.{all_words, restarting_state, restarted_words, restarted_base, past_words, deciding_state, past_set}
 use Rattle.search.proofs.turns.turn_alive.Goals as goal
 
 pub restart-requires : goal.restart-requires
@@ -12,6 +15,30 @@ restart-requires g c =
     let a = all_words c.args.at.now c.args.branch.now c.args.base.now c.requires.used c.requires.words in
     let k = c.requires.counted in
     record { within = omega arith; few = omega arith; room = omega arith; short = c.requires.short; counted = record { moves = omega arith; closings = k.closings; restarts = k.restarts; since = k.since } }
+
+pub add-requires-clause-whole : goal.add-requires-clause-whole
+add-requires-clause-whole g c =
+    let p = c.args.at.now in
+    let ws = c.args.branch.now in
+    let bs = c.args.base.now in
+    let bs' = c.restart.new.base in
+    let e = c.restart.ensures in
+    let new = recorded (reduced (branch_of ws p.branch_len)) in
+    let used : c.restart.new.at.base_used ≡ p.base_used + length new = ap (λ (q : Progress). q.base_used) e.numbers in
+    let wrote : bs' ≡ take p.base_used bs ++ (new ++ drop (p.base_used + length new) bs) = e.words ∙ ap (λ k. take p.base_used bs ++ (new ++ drop k bs)) used in
+    ap (λ k. take k bs') used ∙ restarted_words p ws bs bs' c.requires.used c.requires.words wrote ∙ ap (λ k. recorded (base_of (take k bs'))) (sym used)
+
+pub add-requires-clause-grouped : goal.add-requires-clause-grouped
+add-requires-clause-grouped g c =
+    let p = c.args.at.now in
+    let ws = c.args.branch.now in
+    let bs = c.args.base.now in
+    let bs' = c.restart.new.base in
+    let e = c.restart.ensures in
+    let new = recorded (reduced (branch_of ws p.branch_len)) in
+    let used : c.restart.new.at.base_used ≡ p.base_used + length new = ap (λ (q : Progress). q.base_used) e.numbers in
+    let wrote : bs' ≡ take p.base_used bs ++ (new ++ drop (p.base_used + length new) bs) = e.words ∙ ap (λ k. take p.base_used bs ++ (new ++ drop k bs)) used in
+    subst (AllByRecursion (Grouped 200)) (sym (ap (λ k. base_of (take k bs')) used ∙ restarted_base p ws bs bs' c.requires.used c.requires.words wrote)) c.requires.small
 
 pub returns-then-is_due : goal.returns-then-is_due
 returns-then-is_due g c =
@@ -47,6 +74,8 @@ returns-then-is_due g c =
         grown = omega arith;
         base = ap (λ k. drop k bs') used ∙ past_words p ws bs bs' c.requires.used c.requires.words wrote ∙ ap (λ k. drop k bs) (sym used);
       };
+      known = c.add.ensures.known;
+      wires = c.add.ensures.wires;
     }
 
 pub returns : goal.returns
@@ -82,4 +111,6 @@ returns g c =
         grown = omega arith;
         base = refl;
       };
+      known = subst (λ k. Knows (take k bs) c.args.links.now.index) (sym used) c.requires.known;
+      wires = refl;
     }

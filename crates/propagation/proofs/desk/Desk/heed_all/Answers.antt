@@ -5,7 +5,7 @@ use Rattle.propagation.specs.Waiting.{queued}
 use Rattle.model.specs.Remains.{Heeds}
 use Rattle.model.specs.Words.{base_of}
 use Rattle.propagation.specs.Desks.{Held, Step}
-use Rattle.propagation.specs.Bases.{Good, Grouped, Spared}
+use Rattle.propagation.specs.Bases.{Good, Grouped}
 use Rattle.propagation.proofs.Steps.{same_then, step_then}
 use Rattle.propagation.proofs.Walking.{all_mid, good_step, parts_more}
 use Rattle.propagation.proofs.desk.Desk.heed_all.Goals as goal
@@ -22,7 +22,7 @@ look-requires-clause-grouped g c =
     let e : all ≡ done ++ part ∷ rest = i.done.1 ∙ ap (λ (x : List (List ℕ)). done ++ x) first in
     let h = c.requires.held in
     let size : m.groups ≡ length c.loop-nogood.self.domains.now = sym i.held.fits.groups in
-    subst (λ (n : ℕ). Grouped n part) size (all_mid (Grouped m.groups) all done part rest e c.requires.grouped)
+    subst (λ (n : ℕ). Grouped n part) size (all_mid (Grouped m.groups) all done part rest e c.requires.based.grouped)
 
 pub returns-in_err-look-clause-within : goal.returns-in_err-look-clause-within
 returns-in_err-look-clause-within g c =
@@ -36,8 +36,8 @@ returns-in_err-look-clause-within g c =
     let e : all ≡ done ++ part ∷ rest = i.done.1 ∙ ap (λ (x : List (List ℕ)). done ++ x) first in
     λ k h ins. c.look.ensures.within k (all_mid (Heeds k) all done part rest e h) (i.within k h ins)
 
-pub loop-nogood-preserved-in-Continue-1 : goal.loop-nogood-preserved-in-Continue-1
-loop-nogood-preserved-in-Continue-1 g c =
+pub loop-nogood-preserved : goal.loop-nogood-preserved
+loop-nogood-preserved g c =
     let m = g.B.RuleBook.meaning c.args.self.now.book.now in
     let i = c.loop-nogood.invariant in
     let all = base_of c.args.self.now.base.now in
@@ -64,28 +64,4 @@ loop-nogood-preserved-in-Continue-1 g c =
         All-push (Good d2.domains.now (queued d2.settled)) done part
             (All-weaker (Good d1.domains.now (queued d1.settled)) (Good d2.domains.now (queued d2.settled)) (good_step m d1 d2 step) done i.done.2) (λ _. c.in_ok-look.ensures.heeds),
       );
-      others = All-weaker (λ n. Spared c.args.just n → Good d1.domains.now (queued d1.settled) n) (λ n. Spared c.args.just n → Good d2.domains.now (queued d2.settled) n) (λ n h p. good_step m d1 d2 step n (h p)) all i.others;
-    }
-
-pub loop-nogood-preserved : goal.loop-nogood-preserved
-loop-nogood-preserved g c =
-    let m = g.B.RuleBook.meaning c.args.self.now.book.now in
-    let i = c.loop-nogood.invariant in
-    let all = base_of c.args.self.now.base.now in
-    let part = c.in-Some.nogood.now in
-    let rest = base_of c.next.new.self.0.now in
-    let first = c.in-Some.ensures.steps.nogoods in
-    let done = i.done.0 in
-    let e : all ≡ done ++ part ∷ rest = i.done.1 ∙ ap (λ (x : List (List ℕ)). done ++ x) first in
-    let d1 = c.loop-nogood.self in
-    let good = all_mid (λ n. Spared c.args.just n → Good d1.domains.now (queued d1.settled) n) all done part rest e i.others (c.spared.ensures c.if-not-spared.false) in
-    record {
-      can = tt;
-      ends = tt;
-      same = i.same;
-      held = i.held;
-      step = i.step;
-      within = i.within;
-      done = (done ++ part ∷ [], parts_more all done part rest e, All-push (Good d1.domains.now (queued d1.settled)) done part i.done.2 good);
-      others = i.others;
     }

@@ -5,7 +5,7 @@ use Rattle.model.specs.Remains.{Family, family, Heeds}
 use Rattle.propagation.specs.Supports.{Inside}
 use Rattle.propagation.specs.Desks.{SameDesk, Held, Step}
 use Rattle.model.specs.Words.{base_of}
-use Rattle.propagation.specs.Bases.{Good, Spared}
+use Rattle.propagation.specs.Bases.{Good}
 use Rattle.propagation.proofs.desk.Desk.heed_all.Given as goal
 
 abbrev pub invariant-loop-nogood : goal.invariant-loop-nogood
@@ -17,5 +17,4 @@ invariant-loop-nogood g l = record {
   step : Step (g.B.RuleBook.meaning l.initial.self.book.now) l.initial.self l.self;
   within : (k : Family) → AllByRecursion (Heeds k) (base_of l.initial.self.base.now) → Inside k (family l.initial.self.domains.now) → Inside k (family l.self.domains.now);
   done : (done : List (List ℕ)) × (base_of l.initial.self.base.now ≡ done ++ base_of l.nogood-iterator.0.now) × AllByRecursion (Good l.self.domains.now (queued l.self.settled)) done;
-  others : AllByRecursion (λ n. Spared l.just n → Good l.self.domains.now (queued l.self.settled) n) (base_of l.initial.self.base.now);
 }

@@ -4,8 +4,10 @@ use Rattle.std.proofs.lemmas.Option.{IfSome_then}
 use Rattle.propagation.specs.declared.desk.Desk.{Desk}
 use Rattle.propagation.specs.Waiting.{queued}
 use Rattle.propagation.specs.Waits.{waits, at_end}
-use Rattle.propagation.specs.Wires.{Facing, Wired, link}
-use Rattle.propagation.proofs.Wiring.{facing_below, number_end, above_below, left_below}
+use Rattle.propagation.specs.Chains.{link}
+use Rattle.propagation.specs.Wires.{Facing, Wired}
+use Rattle.propagation.proofs.Chaining.{above_below, left_below}
+use Rattle.propagation.proofs.Wiring.{facing_below, number_end}
 use Rattle.propagation.proofs.desk.Desk.queue_across.Goals as goal
 
 pub loop-next-init : goal.loop-next-init
@@ -15,8 +17,8 @@ loop-next-init g c =
       only = refl;
       line = record { places = refl; marks = refl; size = refl; rules = refl };
       still = λ e h. h;
-      here = w.head c.args.g;
-      past = λ n f l. absurd (above_below _ n (w.last c.args.g n f) l);
+      here = w.chains.head c.args.g;
+      past = λ n f l. absurd (above_below _ n (w.chains.last c.args.g n f) l);
     }
 
 pub add-requires : goal.add-requires
@@ -35,7 +37,7 @@ loop-next-smaller g c =
     let w : Wired m c.loop-next.self.wires.now = subst (λ (d : Desk g.row.B.Denot). Wired m d.wires.now) (sym i.only) c.requires.wired in
     let e = c.in-Some.e in
     let f : Facing m c.args.g e = subst (λ (o : Option ℕ). IfSome o (λ n. Facing m c.args.g n)) c.in-Some.is i.here in
-    left_below c.loop-next.next (link c.loop-next.self.wires.now e) e c.in-Some.is (λ n. Facing m c.args.g n) (w.down c.args.g e f)
+    left_below c.loop-next.next (link c.loop-next.self.wires.now e) e c.in-Some.is (λ n. Facing m c.args.g n) (w.chains.down c.args.g e f)
 
 pub loop-next-preserved : goal.loop-next-preserved
 loop-next-preserved g c =
@@ -52,11 +54,11 @@ loop-next-preserved g c =
       only = ap (λ (d : Desk g.row.B.Denot). record d { line = c.add.new.self }) i.only;
       line = record { places = s.places ∙ i.line.places; marks = s.marks ∙ i.line.marks; size = s.size ∙ i.line.size; rules = s.rules ∙ i.line.rules };
       still = λ n h. c.add.ensures.more n ∙ or_left _ _ (i.still n h);
-      here = IfSome_then (link c.loop-next.self.wires.now e) (w.down x e f) (λ n t. t.1);
+      here = IfSome_then (link c.loop-next.self.wires.now e) (w.chains.down x e f) (λ n t. t.1);
       past = λ n h l. elim (cases_eq n e) [
         | inl q ↦ subst (λ (y : ℕ). waits q' y ≡ true) (sym q) there
         | inr k ↦ elim (cases_lt n e) [
-          | inl b ↦ absurd (above_below _ n (w.next x e n f b h) l)
+          | inl b ↦ absurd (above_below _ n (w.chains.next x e n f h b) l)
           | inr b ↦ c.add.ensures.more n ∙ or_left _ _ (i.past n h (subst (λ (o : Option ℕ). IfSome o (λ d. d < n)) (sym c.in-Some.is) (omega arith)))
         ]
       ];

@@ -4,7 +4,7 @@ use Rattle.propagation.specs.Waits.{waits}
 use Rattle.propagation.specs.Lines.{SameLine}
 use Rattle.propagation.specs.Supports.{Still}
 use Rattle.propagation.specs.Wires.{Facing}
-use Rattle.propagation.proofs.Wiring.{left}
+use Rattle.propagation.proofs.Chaining.{left}
 use Rattle.propagation.proofs.desk.Desk.queue_across.Given as goal
 
 abbrev pub invariant-loop-next : goal.invariant-loop-next

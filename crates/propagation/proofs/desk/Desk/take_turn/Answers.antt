@@ -12,8 +12,8 @@ use Rattle.propagation.proofs.Walking.{good_step}
 use Rattle.propagation.proofs.Turning.{spare, settled_from, weight_falls, calm_step, calm_looked, all_done}
 use Rattle.propagation.proofs.desk.Desk.take_turn.Goals as goal
 
-pub heed_all-requires-clause-held : goal.heed_all-requires-clause-held
-heed_all-requires-clause-held g c =
+pub heed-requires-clause-held : goal.heed-requires-clause-held
+heed-requires-clause-held g c =
     let h = c.requires.held in
     record {
       fits = search rules;
@@ -21,23 +21,23 @@ heed_all-requires-clause-held g c =
       alive = h.alive;
     }
 
-pub heed_all-requires-clause-others : goal.heed_all-requires-clause-others
-heed_all-requires-clause-others g c =
+pub heed-requires-clause-others : goal.heed-requires-clause-others
+heed-requires-clause-others g c =
     spare c.args.self.now.domains.now (queued c.args.self.now.settled) (queued c.pop.new.self) c.in-Some.a _ c.in-Some.ensures.line c.from.ensures (base_of c.args.self.now.base.now) c.requires.going.good
 
-pub returns-in_err-heed_all-clause-within : goal.returns-in_err-heed_all-clause-within
-returns-in_err-heed_all-clause-within g c = λ k a. c.heed_all.ensures.within k a.heeds
+pub returns-in_err-heed-clause-within : goal.returns-in_err-heed-clause-within
+returns-in_err-heed-clause-within g c = λ k a. c.heed.ensures.within k a.heeds
 
 pub returns-in-Some-clause-within : goal.returns-in-Some-clause-within
-returns-in-Some-clause-within g c = λ k a. c.heed_all.ensures.within k a.heeds
+returns-in-Some-clause-within g c = λ k a. c.heed.ensures.within k a.heeds
 
 pub returns-in-Some-clause-turned : goal.returns-in-Some-clause-turned
 returns-in-Some-clause-turned g c =
     let m = g.B.RuleBook.meaning c.args.self.now.book.now in
     let d0 = c.args.self.now in
     let d1 = record d0 { settled = c.pop.new.self } in
-    let d2 = c.heed_all.new.self in
-    let e = c.in_ok-heed_all.ensures in
+    let d2 = c.heed.new.self in
+    let e = c.in_ok-heed.ensures in
     let base : base_of d2.base.now ≡ base_of d0.base.now = ap (λ (b : Bor (List ℕ)). base_of b.now) e.same.base in
     record {
       held = e.held;

@@ -1,0 +1,37 @@
+// The look at the nogoods that have an assignment.
+ghost use Rattle.std.specs.Prelude.{OnOk, OnErr};
+ghost use Rattle.std.specs.List.{AllByRecursion};
+ghost use Rattle.propagation.specs.Waiting.{queued};
+ghost use Rattle.model.specs.Remains.{Family, family, Heeds};
+ghost use Rattle.model.specs.Words.{base_of};
+ghost use Rattle.propagation.specs.Supports.{Inside};
+ghost use Rattle.propagation.specs.Settling.{Emptied};
+ghost use Rattle.propagation.specs.Desks.{SameDesk, Held, Based, Step};
+ghost use Rattle.propagation.specs.Bases.{Good, Spared};
+
+use super::bench::Dead;
+use super::desk::Desk;
+use rules::book::RuleBook;
+
+impl<'d, B: RuleBook> Desk<'d, B> {
+    // Looks at every nogood that has the assignment, along its chain in the index.
+    pub fn heed(&mut self, v: u32) -> Result<(), Dead>
+        requires held { Held (B.meaning self.old.book.now) self.old }
+        requires based { Based (B.meaning self.old.book.now) self.old }
+        requires others { AllByRecursion (λ n. Spared v n → Good self.old.domains.now (queued self.old.settled) n) (base_of self.old.base.now) }
+        ensures same { SameDesk self.old self.new }
+        ensures within { (k : Family) → AllByRecursion (Heeds k) (base_of self.old.base.now) → Inside k (family self.old.domains.now) → Inside k (family self.new.domains.now) }
+        ensures dead { OnErr result (Emptied self.new.domains.now) }
+        ensures held { OnOk result (Held (B.meaning self.old.book.now) self.new) }
+        ensures step { OnOk result (Step (B.meaning self.old.book.now) self.old self.new) }
+        ensures good { OnOk result (AllByRecursion (Good self.new.domains.now (queued self.new.settled)) (base_of self.old.base.now)) }
+    {
+        let (index, base) = (self.index, self.base);
+        let mut next = index.last(v);
+        while let Some(p) = next {
+            self.look(index.nogood(base, p))?;
+            next = index.before(p);
+        }
+        Ok(())
+    }
+}
