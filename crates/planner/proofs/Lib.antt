@@ -1,1 +1,3 @@
+pub mod Accepting
 pub mod Goings
+pub mod Openings
