@@ -90,8 +90,9 @@ module _ {O P H Q : Type 0} {om : OrderMeaning H} {pm : PolicyMeaning Q} {oh : O
   pub along_last : {s0 : OpenSearch} {m0 : Memory} {o0 : O} {p0 : P} {s : OpenSearch} {m : Memory} {o : O} {p : P} → Along om pm oh ph book lists settings s0 m0 o0 p0 zero s m o p
       → SatOn om pm book lists settings s0 m0 m (oh o0) (oh o) (ph p0) (ph p) (SatOpen s)
   along_last {s = s} {m = m} along = (
-    record { end = state_of s.at (vec_items m.branch) (vec_items m.base); ran = along.onward unsettled _ none_left; tells = record { moves = refl; closings = refl; restarts = refl }; continues = along.runs },
+    record { end = state_of s.at (vec_items m.branch) (vec_items m.base); ran = along.onward unsettled _ none_left; tells = record { moves = refl; closings = refl; restarts = refl } },
     refl,
+    along.runs,
   )
 
   module _ {s0 : OpenSearch} {m0 : Memory} {o0 : O} {p0 : P} {n : ℕ} {s : OpenSearch} {m : Memory} {o : O} {p : P} (along : Along om pm oh ph book lists settings s0 m0 o0 p0 (suc n) s m o p) where
@@ -114,20 +115,23 @@ module _ {O P H Q : Type 0} {om : OrderMeaning H} {pm : PolicyMeaning Q} {oh : O
 
     module _ (m' : Memory) (o' : O) (p' : P) where
       -- A sitting that settles the search ends them.
-      ends : (v : Reached) (at : Progress) (c : Counts) → v ≢ unsettled → (r : Sits om pm oh ph book lists settings s m o p m' o' p' v at) → Tells c r.end.state
+      settling : (v : Reached) (at : Progress) (c : Counts) → v ≢ unsettled → (r : Sits om pm oh ph book lists settings s m o p m' o' p' v at) → Tells c r.end.state
           → Comes om pm book lists (vec_len m0.base) settings (state_of s0.at (vec_items m0.branch) (vec_items m0.base)) (oh o0) (oh o') (ph p0) (ph p') v c
-      ends v at c closed r tells =
+      settling v at c closed r tells =
           let left : left_by om pm (stand om pm oh ph book lists settings s m o p) r.end ≡ between r.end.state (oh o') (ph p') = between_same _ _ _ _ _ _ refl (sym r.order) (sym r.policy) in
           record {
             end = r.end.state;
             ran = along.onward v _ (subst (λ (b : Between H Q). Ran om pm lists book (vec_len m0.base) settings.allowance (suc n) (stand om pm oh ph book lists settings s m o p) v b) left (settled (rw room at r.sits) closed));
             tells = tells;
-            continues = λ run. (let k = r.continues (along.runs run).0 in (k.0, k.2));
           }
 
+      running : (v : Reached) (at : Progress) (r : Sits om pm oh ph book lists settings s m o p m' o' p' v at) → Stands book lists s0 (vec_items m0.branch) (vec_items m0.base) → (run : Run lists book v r.end.state) × Law lists book run
+      running v at r run = let k = r.continues (along.runs run).0 in (k.0, k.2)
+
       pub along_settled : (sat : Sat) → ((t : OpenSearch) → sat ≡ SatOpen t → ⊥) → Answer om pm oh ph book lists settings s m o p m' o' p' (Ok sat) → SatOn om pm book lists settings s0 m0 m' (oh o0) (oh o') (ph p0) (ph p') sat
-      along_settled (SatPlan d) closed a = (ends _ a.0.0 d.counts (plan_open _) a.0.1 a.0.2, tt)
-      along_settled (SatNone d) closed a = (ends none a.0.0 d.counts none_open a.0.1 a.0.2, tt)
+      unfolding settling
+      along_settled (SatPlan d) closed a = (settling _ a.0.0 d.counts (plan_open _) a.0.1 a.0.2, tt, running _ a.0.0 a.0.1)
+      along_settled (SatNone d) closed a = (settling none a.0.0 d.counts none_open a.0.1 a.0.2, tt, running none a.0.0 a.0.1)
       along_settled (SatOpen t) closed a = absurd (closed t refl)
 
       -- It is not refused where the first was to be ready for all.
@@ -161,6 +165,6 @@ module _ {O P H Q : Type 0} {om : OrderMeaning H} {pm : PolicyMeaning Q} {oh : O
           record {
             kept = kept_on m0 m m' along.kept k;
             onward = λ v c ran. along.onward v c (goes_on (rw room at r.sits) (subst (λ (b : Between H Q). Ran om pm lists book (vec_len m0.base) settings.allowance n b v c) here ran));
-            runs = λ run. (let l = r.continues (along.runs run).0 in subst (λ (z : State). (run : Run lists book unsettled z) × Law lists book run) (sym r.state) (l.0, l.2));
+            runs = λ run. subst (λ (z : State). (run : Run lists book unsettled z) × Law lists book run) (sym r.state) (running unsettled t.at r run);
             ready = λ ready. still_ready k t a (along.ready ready);
           }

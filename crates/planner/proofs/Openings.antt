@@ -1,5 +1,5 @@
 -- From the opening of a search on a loaded job on.
-use Rattle.std.proofs.Common.{◌≡◌, ℕ, zero, suc, ◌+◌, List, [], length, None, Option, Ok, Err, Result, MatchResult, IsErrAnd, sym, refl, ap, ◌∙◌, subst, vec_items, vec_len, inl, inr, arith}
+use Rattle.std.proofs.Common.{◌≡◌, ℕ, zero, suc, ◌+◌, List, [], length, take, None, Option, Ok, Err, Result, MatchResult, IsErrAnd, sym, refl, ap, ◌∙◌, subst, vec_items, vec_len, inl, inr, arith}
 use Rattle.std.proofs.lemmas.List.{take_all}
 use Rattle.rules.specs.Meanings.{Meaning}
 use Rattle.rules.specs.declared.refusal.Refusal.{Refusal}
@@ -13,9 +13,11 @@ use Rattle.model.specs.Words.{branch_of}
 use Rattle.model.specs.Moves.{State, start}
 use Rattle.laws.specs.Sittings.{Verdict as Reached, unsettled}
 use Rattle.laws.specs.Runs.{Run}
+use Rattle.laws.specs.Law.{Law}
 use Rattle.search.specs.declared.held.Counts.{Counts}
 use Rattle.search.specs.declared.held.OpenSearch.{OpenSearch}
-use Rattle.search.specs.Turns.{state_of}
+use Rattle.search.specs.declared.held.Sat.{Sat}
+use Rattle.search.specs.Ends.{counted}
 use Rattle.search.specs.Sittings.{Opened, Unopened}
 use Rattle.jobs.specs.declared.load.Loaded.{Loaded}
 use Rattle.jobs.specs.declared.fault.LoadFault.{LoadFault}
@@ -35,7 +37,7 @@ use Rattle.planner.specs.declared.store.Store.{Store}
 use Rattle.planner.specs.Stores.{places, Stored, Unstored}
 use Rattle.jobs.proofs.Binds.{book_binds}
 use Rattle.planner.specs.Sittings.{between, Ran}
-use Rattle.planner.specs.Answers.{Roomy, Accepted, Ready, Comes, Came, Answered, Unanswered, RefusedAsLoaded, program, program_order, AnsweredByProgram}
+use Rattle.planner.specs.Answers.{Roomy, Accepted, Ready, Comes, SatOn, reached, Answered, Unanswered, RefusedAsLoaded, program, program_order, AnsweredByProgram}
 use Rattle.planner.proofs.Accepting.{opens, none≢some}
 
 -- The book of what was loaded.
@@ -92,20 +94,27 @@ module _ (bs : List ℕ) (store : Store) (st : Stored bs store) (book : Meaning)
 
 module _ {H Q : Type 0} (om : OrderMeaning H) (pm : PolicyMeaning Q) where
   -- What came, told of the job's own lists and book.
-  pub came_home : (m m' : Meaning) (ls ls' : List ℕ) (s : OpenSearch) (branch base : List ℕ) (room : ℕ) (settings : Settings) (h h' : H) (q q' : Q) (v v' : Reached) (c c' : Counts) → Opened m ls s
-      → Comes om pm m ls room settings (state_of s.at branch base) h h' q q' v c → m ≡ m' → ls ≡ ls' → room ≡ settings.base_words → v ≡ v' → c ≡ c' → Came om pm m' ls' settings h h' q q' v' c'
-  came_home m m' ls ls' s branch base room settings h h' q q' v v' c c' o r eb el er ev ec =
-      let state = o.state branch base in
-      let n = r.continues (subst (λ (t : State). Run ls m unsettled t) (sym state) o.begins.0) in
-      let home : Came om pm m ls settings h h' q q' v c = record {
-        end = r.end;
-        ran = subst (λ (k : ℕ). Ran om pm ls m k settings.allowance settings.sittings (between start h q) v (between r.end h' q')) er
-            (subst (λ (t : State). Ran om pm ls m room settings.allowance settings.sittings (between t h q) v (between r.end h' q')) state r.ran);
-        tells = r.tells;
-        run = n.0;
-        law = n.1;
-      } in
-      rw (eb, el, ev, ec) at home
+  abbrev Home : Meaning → List ℕ → Settings → H → H → Q → Q → Reached → Counts → Type 0
+  Home book lists settings h h' q q' v c = (r : Comes om pm book lists settings.base_words settings start h h' q q' v c) × (run : Run lists book v r.end) × Law lists book run
+
+  pub came_home : (m m' : Meaning) (ls ls' : List ℕ) (s : OpenSearch) (settings : Settings) (h h' : H) (q q' : Q) (t : Sat) (v : Reached) (c : Counts) (r r' : Memory) → Opened m ls s
+      → SatOn om pm m ls settings s r r' h h' q q' t → m ≡ m' → ls ≡ ls' → vec_len r.base ≡ settings.base_words → reached (take (length ls) (vec_items r'.plan)) t ≡ v → counted t ≡ c
+      → Home m' ls' settings h h' q q' v c
+  came_home m m' ls ls' s settings h h' q q' t v c r r' o x eb el er ev ec =
+      let state = o.state (vec_items r.branch) (vec_items r.base) in
+      let k = x.2 (subst (λ (z : State). Run ls m unsettled z) (sym state) o.begins.0) in
+      let w = reached (take (length ls) (vec_items r'.plan)) t in
+      let home : Home m ls settings h h' q q' w (counted t) = (
+        record {
+          end = x.0.end;
+          ran = subst (λ (k : ℕ). Ran om pm ls m k settings.allowance settings.sittings (between start h q) w (between x.0.end h' q')) er
+              (subst (λ (z : State). Ran om pm ls m (vec_len r.base) settings.allowance settings.sittings (between z h q) w (between x.0.end h' q')) state x.0.ran);
+          tells = x.0.tells;
+        },
+        k.0,
+        k.1,
+      ) in
+      rw (eb, ev, ec, el) at home
 
 -- A job is loaded or has one first fault.
 module _ (bs : List ℕ) (m : Room) where

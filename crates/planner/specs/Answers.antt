@@ -107,33 +107,27 @@ pub record Ready (book : Meaning) (lists : List ℕ) (allowance sittings : ℕ) 
   pub moves : s.at.counts.moves + sittings * allowance ≤ 100000000
 
 module _ {H Q : Type 0} (om : OrderMeaning H) (pm : PolicyMeaning Q) where
-  -- The sittings by the settings came from a state to a verdict, with an order and a policy that held h and q and now hold h' and q'. The counts are those of the state that
-  -- they came to, and every run that came to the first state goes on to it, by the law of runs.
+  -- The sittings that the settings ask for came from a state to this verdict, with an order and a policy that held h and q and now hold h' and q'; the counts are those of the
+  -- state that they came to.
   pub record Comes (book : Meaning) (lists : List ℕ) (room : ℕ) (settings : Settings) (from : State) (h h' : H) (q q' : Q) (v : Reached) (c : Counts) : Type 0 where
     pub end : State
     pub ran : Ran om pm lists book room settings.allowance settings.sittings (between from h q) v (between end h' q')
     pub tells : Tells c end
-    pub continues : Run lists book unsettled from → (run : Run lists book v end) × Law lists book run
 
-  -- What the sittings on a search came to, from the regions as they were found to the regions as they are left.
+  -- What the sittings on a search come to, from the regions as they were found to the regions as they are left. Every run that came to what was found goes on to it, and the law
+  -- of runs holds of it.
   abbrev pub SatOn : Meaning → List ℕ → Settings → OpenSearch → Memory → Memory → H → H → Q → Q → Sat → Type 0
   SatOn book lists settings s m m' h h' q q' t =
       (r : Comes book lists (vec_len m.base) settings (state_of s.at (vec_items m.branch) (vec_items m.base)) h h' q q' (reached (take (length lists) (vec_items m'.plan)) t) (counted t))
       × StandsFor m' r.end t
+      × (Stands book lists s (vec_items m.branch) (vec_items m.base) → (run : Run lists book (reached (take (length lists) (vec_items m'.plan)) t) r.end) × Law lists book run)
 
-  -- The same from the opening on, with a run of calls, of which the law holds.
-  pub record Came (book : Meaning) (lists : List ℕ) (settings : Settings) (h h' : H) (q q' : Q) (v : Reached) (c : Counts) : Type 0 where
-    pub end : State
-    pub ran : Ran om pm lists book settings.base_words settings.allowance settings.sittings (between start h q) v (between end h' q')
-    pub tells : Tells c end
-    pub run : Run lists book v end
-    pub law : Law lists book run
-
-  -- An answer comes only to a job without a fault. It has the verdict and the counts of the very sittings that the settings ask for, on the job's lists and book, and the law of
-  -- runs holds of them: so there is no plan where it is "none", and the channels are a plan where it is one. A plan has one channel for each group.
+  -- An answer comes only to a job without a fault. It has the verdict and the counts of the very sittings that the settings ask for, on the job's lists and book. They are a run of
+  -- calls, and the law of runs holds of it: so there is no plan where the verdict is "none", and the channels are a plan where it is one. A plan has one channel for each group.
   abbrev pub Answered : List ℕ → Settings → H → H → Q → Q → Answer → Type 0
   Answered bs settings h h' q q' a = (i : ℕ) × Accepts bs places i × Shaped (length (after bs i).lists) a.verdict × (vec_len a.base ≡ settings.base_words)
-      × Came (book_of bs (after bs i)) (after bs i).lists settings h h' q q' (told_by a.verdict) a.counts
+      × (r : Comes (book_of bs (after bs i)) (after bs i).lists settings.base_words settings start h h' q q' (told_by a.verdict) a.counts)
+      × (run : Run (after bs i).lists (book_of bs (after bs i)) (told_by a.verdict) r.end) × Law (after bs i).lists (book_of bs (after bs i)) run
 
 -- A refusal is that of the job's first fault; or of a call on a search, where the settings are not accepted. Memory may be wanting at any job.
 abbrev pub Unanswered : List ℕ → Settings → PlanError → Type 0

@@ -67,13 +67,16 @@ returns-clause-answers g c =
     let long : length (vec_items plan) ≡ length lists = sym plan.ok.0 ∙ groups ∙ sym (ap length own) in
     let book = c.book-book.ensures.stands ∙ book_same bs job store.loaded c.deref.result.now c.deref-2.result.now st.2 (c.deref.ensures.value ∙ st.4) (c.deref-2.ensures.value ∙ st.5) in
     let verdict : reached (take (length lists) (vec_items plan)) sat ≡ told_by answer.verdict =
-    ap (λ (xs : List ℕ). reached xs sat) (take_all (length lists) (vec_items plan) (omega arith)) ∙ sym c.answer.ensures.told in (
+    ap (λ (xs : List ℕ). reached xs sat) (take_all (length lists) (vec_items plan) (omega arith)) ∙ sym c.answer.ensures.told in
+    let came = came_home _ _ _ (book_of bs job) lists job.lists c.in_ok-search.search c.args.settings _ _ _ _ sat (told_by answer.verdict) answer.counts memory c.sit_on.new.memory
+    c.in_ok-search.ensures c.in_ok-sat.ensures.sat book own new.base verdict (sym c.answer.ensures.counts) in (
       st.0,
       st.1,
       subst (λ (n : ℕ). Shaped n answer.verdict) groups c.answer.ensures.verdict,
       c.answer.ensures.base ∙ kept.base ∙ new.base,
-      came_home _ _ _ (book_of bs job) lists job.lists c.in_ok-search.search (vec_items memory.branch) (vec_items memory.base) _ c.args.settings _ _ _ _ _ (told_by answer.verdict) _ answer.counts
-          c.in_ok-search.ensures c.in_ok-sat.ensures.sat.0 book own new.base verdict (sym c.answer.ensures.counts),
+      came.0,
+      came.1,
+      came.2,
     )
 
 pub returns-clause-refused : goal.returns-clause-refused
