@@ -6,6 +6,7 @@ use Rattle.rules.specs.Meanings.{Meaning, Lawful}
 use Rattle.rules.specs.declared.refusal.Refusal.{Refusal}
 use Rattle.branching.specs.Order.{OrderMeaning}
 use Rattle.branching.specs.Policy.{PolicyMeaning}
+use Rattle.model.specs.Words.{recorded}
 use Rattle.model.specs.Moves.{State}
 use Rattle.propagation.specs.declared.records.RuleEnd.{RuleEnd}
 use Rattle.propagation.specs.declared.records.Assignment.{Assignment}
@@ -24,8 +25,9 @@ use Rattle.search.specs.Turns.{state_of}
 use Rattle.search.specs.Sittings.{lent, Tells, ComesTo as Sitting, Answers}
 use Rattle.planner.specs.declared.memory.Memory.{Memory}
 use Rattle.planner.specs.declared.solve.Settings.{Settings}
-use Rattle.planner.specs.Answers.{Stands, Kept, lent_of, asked, Ready, Comes, SatOn}
+use Rattle.planner.specs.Answers.{Stands, Kept, lent_of, Written, Clear, asked, Ready, Comes, SatOn}
 use Rattle.planner.specs.Sittings.{Between, between, left_by, Ran, none_left, settled, goes_on}
+use Rattle.planner.proofs.Bases.{written_on}
 use Rattle.planner.proofs.Accepting.{none≢some, Spacious, accepted}
 
 -- What a vector holds after its slice was lent on: the slice.
@@ -68,6 +70,7 @@ module _ {O P H Q : Type 0} (om : OrderMeaning H) (pm : PolicyMeaning Q) (oh : O
     pub onward : (v : Reached) (c : Between H Q) → Ran om pm lists book (vec_len m.base) settings.allowance n (stand t m' o' p') v c
         → Ran om pm lists book (vec_len m.base) settings.allowance settings.sittings (stand s m o p) v c
     pub runs : Stands book lists s (vec_items m.branch) (vec_items m.base) → (run : Stands book lists t (vec_items m'.branch) (vec_items m'.base)) × Law lists book run
+    pub clear : Clear s m → Clear t m'
     pub ready : Ready book lists settings.allowance settings.sittings s m → Ready book lists settings.allowance n t m'
 
   -- What one sitting answers, and what it came to.
@@ -83,6 +86,7 @@ module _ {O P H Q : Type 0} {om : OrderMeaning H} {pm : PolicyMeaning Q} {oh : O
     kept = record { domains = refl; branch = refl; plan = refl; base = refl; marks = refl; ends = refl; settled = refl };
     onward = λ v c ran. ran;
     runs = λ run. (run, law lists book lawful unsettled _ run);
+    clear = λ clear. clear;
     ready = λ ready. ready;
   }
 
@@ -93,6 +97,7 @@ module _ {O P H Q : Type 0} {om : OrderMeaning H} {pm : PolicyMeaning Q} {oh : O
     record { end = state_of s.at (vec_items m.branch) (vec_items m.base); ran = along.onward unsettled _ none_left; tells = record { moves = refl; closings = refl; restarts = refl } },
     refl,
     along.runs,
+    λ clear. (along.clear clear).0,
   )
 
   module _ {s0 : OpenSearch} {m0 : Memory} {o0 : O} {p0 : P} {n : ℕ} {s : OpenSearch} {m : Memory} {o : O} {p : P} (along : Along om pm oh ph book lists settings s0 m0 o0 p0 (suc n) s m o p) where
@@ -125,13 +130,16 @@ module _ {O P H Q : Type 0} {om : OrderMeaning H} {pm : PolicyMeaning Q} {oh : O
             tells = tells;
           }
 
+      written : (v : Reached) (at : Progress) (r : Sits om pm oh ph book lists settings s m o p m' o' p' v at) → Clear s0 m0 → Written (vec_items m'.base) r.end.state.base
+      written v at r clear = let c = along.clear clear in written_on (vec_items m.base) (vec_items m'.base) _ r.end.state.base s.at.base_used at.base_used c.0 c.1 r.kept.grown r.words r.kept.base
+
       running : (v : Reached) (at : Progress) (r : Sits om pm oh ph book lists settings s m o p m' o' p' v at) → Stands book lists s0 (vec_items m0.branch) (vec_items m0.base) → (run : Run lists book v r.end.state) × Law lists book run
       running v at r run = let k = r.continues (along.runs run).0 in (k.0, k.2)
 
       pub along_settled : (sat : Sat) → ((t : OpenSearch) → sat ≡ SatOpen t → ⊥) → Answer om pm oh ph book lists settings s m o p m' o' p' (Ok sat) → SatOn om pm book lists settings s0 m0 m' (oh o0) (oh o') (ph p0) (ph p') sat
       unfolding settling
-      along_settled (SatPlan d) closed a = (settling _ a.0.0 d.counts (plan_open _) a.0.1 a.0.2, tt, running _ a.0.0 a.0.1)
-      along_settled (SatNone d) closed a = (settling none a.0.0 d.counts none_open a.0.1 a.0.2, tt, running none a.0.0 a.0.1)
+      along_settled (SatPlan d) closed a = (settling _ a.0.0 d.counts (plan_open _) a.0.1 a.0.2, tt, running _ a.0.0 a.0.1, written _ a.0.0 a.0.1)
+      along_settled (SatNone d) closed a = (settling none a.0.0 d.counts none_open a.0.1 a.0.2, tt, running none a.0.0 a.0.1, written none a.0.0 a.0.1)
       along_settled (SatOpen t) closed a = absurd (closed t refl)
 
       -- It is not refused where the first was to be ready for all.
@@ -166,5 +174,6 @@ module _ {O P H Q : Type 0} {om : OrderMeaning H} {pm : PolicyMeaning Q} {oh : O
             kept = kept_on m0 m m' along.kept k;
             onward = λ v c ran. along.onward v c (goes_on (rw room at r.sits) (subst (λ (b : Between H Q). Ran om pm lists book (vec_len m0.base) settings.allowance n b v c) here ran));
             runs = λ run. subst (λ (z : State). (run : Run lists book unsettled z) × Law lists book run) (sym r.state) (running unsettled t.at r run);
+            clear = λ clear. (subst (λ (z : State). Written (vec_items m'.base) z.base × (t.at.base_used ≡ length (recorded z.base))) (sym r.state) (written unsettled t.at r clear, a.next.carried.base_used));
             ready = λ ready. still_ready k t a (along.ready ready);
           }

@@ -1,3 +1,4 @@
+pub mod Bases
 pub mod Accepting
 pub mod Goings
 pub mod Openings

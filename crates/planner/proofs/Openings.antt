@@ -1,5 +1,5 @@
 -- From the opening of a search on a loaded job on.
-use Rattle.std.proofs.Common.{◌≡◌, ℕ, zero, suc, ◌+◌, List, [], length, take, None, Option, Ok, Err, Result, MatchResult, IsErrAnd, sym, refl, ap, ◌∙◌, subst, vec_items, vec_len, inl, inr, arith}
+use Rattle.std.proofs.Common.{◌≡◌, ℕ, zero, suc, ◌+◌, List, [], length, take, replicate, None, Option, Ok, Err, Result, MatchResult, IsErrAnd, sym, refl, ap, ◌∙◌, subst, vec_items, vec_len, inl, inr, arith}
 use Rattle.std.proofs.lemmas.List.{take_all}
 use Rattle.rules.specs.Meanings.{Meaning}
 use Rattle.rules.specs.declared.refusal.Refusal.{Refusal}
@@ -37,7 +37,7 @@ use Rattle.planner.specs.declared.store.Store.{Store}
 use Rattle.planner.specs.Stores.{places, Stored, Unstored}
 use Rattle.jobs.proofs.Binds.{book_binds}
 use Rattle.planner.specs.Sittings.{between, Ran}
-use Rattle.planner.specs.Answers.{Roomy, Accepted, Ready, Comes, SatOn, reached, Answered, Unanswered, RefusedAsLoaded, program, program_order, AnsweredByProgram}
+use Rattle.planner.specs.Answers.{Roomy, Accepted, Written, Clear, Ready, Comes, SatOn, reached, Answered, Unanswered, RefusedAsLoaded, program, program_order, AnsweredByProgram}
 use Rattle.planner.proofs.Accepting.{opens, none≢some}
 
 -- The book of what was loaded.
@@ -93,18 +93,22 @@ module _ (bs : List ℕ) (store : Store) (st : Stored bs store) (book : Meaning)
       opened_ready book lists s o settings z m (rw (groups, rules) at roomy) (plan ∙ groups) base
 
 module _ {H Q : Type 0} (om : OrderMeaning H) (pm : PolicyMeaning Q) where
+  -- The base of new regions has nothing recorded.
+  clear_new : (book : Meaning) (lists : List ℕ) (s : OpenSearch) (words : ℕ) (m : Memory) → Opened book lists s → vec_items m.base ≡ replicate words 0 → Clear s m
+  clear_new book lists s words m o e = rw (o.used) ((words, e), refl)
+
   -- What came, told of the job's own lists and book.
-  abbrev Home : Meaning → List ℕ → Settings → H → H → Q → Q → Reached → Counts → Type 0
-  Home book lists settings h h' q q' v c = (r : Comes om pm book lists settings.base_words settings start h h' q q' v c) × (run : Run lists book v r.end) × Law lists book run
+  abbrev Home : Meaning → List ℕ → Settings → H → H → Q → Q → Reached → Counts → List ℕ → Type 0
+  Home book lists settings h h' q q' v c words = (r : Comes om pm book lists settings.base_words settings start h h' q q' v c) × (run : Run lists book v r.end) × Law lists book run × Written words r.end.base
 
   pub came_home : (m m' : Meaning) (ls ls' : List ℕ) (s : OpenSearch) (settings : Settings) (h h' : H) (q q' : Q) (t : Sat) (v : Reached) (c : Counts) (r r' : Memory) → Opened m ls s
-      → SatOn om pm m ls settings s r r' h h' q q' t → m ≡ m' → ls ≡ ls' → vec_len r.base ≡ settings.base_words → reached (take (length ls) (vec_items r'.plan)) t ≡ v → counted t ≡ c
-      → Home m' ls' settings h h' q q' v c
-  came_home m m' ls ls' s settings h h' q q' t v c r r' o x eb el er ev ec =
+      → SatOn om pm m ls settings s r r' h h' q q' t → m ≡ m' → ls ≡ ls' → vec_len r.base ≡ settings.base_words → reached (take (length ls) (vec_items r'.plan)) t ≡ v → counted t ≡ c → vec_items r.base ≡ replicate settings.base_words 0
+      → Home m' ls' settings h h' q q' v c (vec_items r'.base)
+  came_home m m' ls ls' s settings h h' q q' t v c r r' o x eb el er ev ec ez =
       let state = o.state (vec_items r.branch) (vec_items r.base) in
       let k = x.2 (subst (λ (z : State). Run ls m unsettled z) (sym state) o.begins.0) in
       let w = reached (take (length ls) (vec_items r'.plan)) t in
-      let home : Home m ls settings h h' q q' w (counted t) = (
+      let home : Home m ls settings h h' q q' w (counted t) (vec_items r'.base) = (
         record {
           end = x.0.end;
           ran = subst (λ (k : ℕ). Ran om pm ls m k settings.allowance settings.sittings (between start h q) w (between x.0.end h' q')) er
@@ -113,6 +117,7 @@ module _ {H Q : Type 0} (om : OrderMeaning H) (pm : PolicyMeaning Q) where
         },
         k.0,
         k.1,
+        x.3 (clear_new m ls s settings.base_words r o ez),
       ) in
       rw (eb, ev, ec, el) at home
 

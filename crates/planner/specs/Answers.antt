@@ -1,5 +1,5 @@
 -- What an answer has to do with its job.
-use Rattle.std.specs.Prelude.{◌≡◌, ℕ, ◌+◌, ◌*◌, ◌≤◌, ◌⊎◌, List, [], length, take, None as Nothing, Ok, Err, Result, vec_items, vec_len}
+use Rattle.std.specs.Prelude.{◌≡◌, ℕ, ◌+◌, ◌*◌, ◌≤◌, ◌⊎◌, List, [], ◌++◌, length, take, replicate, None as Nothing, Ok, Err, Result, vec_items, vec_len}
 use Rattle.jobs.specs.declared.fault.LoadFault.{LoadFault}
 use Rattle.jobs.specs.Jobs.{after, Accepts}
 use Rattle.jobs.specs.Books.{book_of}
@@ -18,6 +18,7 @@ use Rattle.branching.specs.Order.{OrderMeaning}
 use Rattle.branching.specs.Policy.{PolicyMeaning, geometric}
 use Rattle.branching.specs.Fewest.{fewest_first}
 use Rattle.branching.specs.Layer.{Layer, last_conflict}
+use Rattle.model.specs.Words.{base_of, recorded}
 use Rattle.model.specs.Moves.{State, start}
 use Rattle.laws.specs.Sittings.{Verdict as Reached, none, plan, unsettled}
 use Rattle.laws.specs.Requests.{Request}
@@ -81,6 +82,14 @@ StandsFor m s (SatPlan _) = Unit {0}
 StandsFor m s (SatNone _) = Unit {0}
 StandsFor m s (SatOpen t) = state_of t.at (vec_items m.branch) (vec_items m.base) ≡ s
 
+-- The words are the nogoods recorded, one after another, and zeros behind them.
+abbrev pub Written : List ℕ → List (List ℕ) → Type 0
+Written words nogoods = (k : ℕ) × (words ≡ recorded nogoods ++ replicate k 0)
+
+-- So are those of the base, up to the used ones of a search.
+abbrev pub Clear : OpenSearch → Memory → Type 0
+Clear s m = Written (vec_items m.base) (base_of (take s.at.base_used (vec_items m.base))) × (s.at.base_used ≡ length (recorded (base_of (take s.at.base_used (vec_items m.base)))))
+
 -- Settings with which no sitting is refused.
 pub record Accepted (s : Settings) : Type 0 where
   pub base : s.base_words ≤ 65536
@@ -115,19 +124,22 @@ module _ {H Q : Type 0} (om : OrderMeaning H) (pm : PolicyMeaning Q) where
     pub tells : Tells c end
 
   -- What the sittings on a search come to, from the regions as they were found to the regions as they are left. Every run that came to what was found goes on to it, and the law
-  -- of runs holds of it.
+  -- of runs holds of it; and where the base had nothing but recorded nogoods, it has those of the end.
   abbrev pub SatOn : Meaning → List ℕ → Settings → OpenSearch → Memory → Memory → H → H → Q → Q → Sat → Type 0
   SatOn book lists settings s m m' h h' q q' t =
       (r : Comes book lists (vec_len m.base) settings (state_of s.at (vec_items m.branch) (vec_items m.base)) h h' q q' (reached (take (length lists) (vec_items m'.plan)) t) (counted t))
       × StandsFor m' r.end t
       × (Stands book lists s (vec_items m.branch) (vec_items m.base) → (run : Run lists book (reached (take (length lists) (vec_items m'.plan)) t) r.end) × Law lists book run)
+      × (Clear s m → Written (vec_items m'.base) r.end.base)
 
   -- An answer comes only to a job without a fault. It has the verdict and the counts of the very sittings that the settings ask for, on the job's lists and book. They are a run of
   -- calls, and the law of runs holds of it: so there is no plan where the verdict is "none", and the channels are a plan where it is one. A plan has one channel for each group.
+  -- The base has the nogoods that were recorded.
   abbrev pub Answered : List ℕ → Settings → H → H → Q → Q → Answer → Type 0
   Answered bs settings h h' q q' a = (i : ℕ) × Accepts bs places i × Shaped (length (after bs i).lists) a.verdict × (vec_len a.base ≡ settings.base_words)
       × (r : Comes (book_of bs (after bs i)) (after bs i).lists settings.base_words settings start h h' q q' (told_by a.verdict) a.counts)
       × (run : Run (after bs i).lists (book_of bs (after bs i)) (told_by a.verdict) r.end) × Law (after bs i).lists (book_of bs (after bs i)) run
+      × Written (vec_items a.base) r.end.base
 
 -- A refusal is that of the job's first fault; or of a call on a search, where the settings are not accepted. Memory may be wanting at any job.
 abbrev pub Unanswered : List ℕ → Settings → PlanError → Type 0

@@ -1,10 +1,10 @@
-use Rattle.std.proofs.Common.{◌≡◌, ℕ, List, length, take, vec_items, vec_len, sym, ap, ◌∙◌, subst, arith}
+use Rattle.std.proofs.Common.{◌≡◌, ℕ, List, length, take, vec_items, vec_len, Vec, Global, sym, ap, ◌∙◌, subst, arith}
 use Rattle.std.proofs.lemmas.List.{take_all}
 use Rattle.std.proofs.lemmas.Bool.{false≢true}
 use Rattle.jobs.specs.Jobs.{after}
 use Rattle.jobs.specs.Books.{book_of}
 use Rattle.planner.specs.declared.error.PlanError.{PlanError}
-use Rattle.planner.specs.Answers.{Shaped, Unanswered, reached, told_by}
+use Rattle.planner.specs.Answers.{Shaped, Written, Unanswered, reached, told_by}
 use Rattle.planner.proofs.Openings.{book_same, open_taken, new_ready, came_home, refused_as_loaded, unanswered, called_off, passed_on}
 use Rattle.planner.proofs.solve.solve.Goals as goal
 
@@ -69,14 +69,15 @@ returns-clause-answers g c =
     let verdict : reached (take (length lists) (vec_items plan)) sat ≡ told_by answer.verdict =
     ap (λ (xs : List ℕ). reached xs sat) (take_all (length lists) (vec_items plan) (omega arith)) ∙ sym c.answer.ensures.told in
     let came = came_home _ _ _ (book_of bs job) lists job.lists c.in_ok-search.search c.args.settings _ _ _ _ sat (told_by answer.verdict) answer.counts memory c.sit_on.new.memory
-    c.in_ok-search.ensures c.in_ok-sat.ensures.sat book own new.base verdict (sym c.answer.ensures.counts) in (
+    c.in_ok-search.ensures c.in_ok-sat.ensures.sat book own new.base verdict (sym c.answer.ensures.counts) new.zeros in (
       st.0,
       st.1,
       subst (λ (n : ℕ). Shaped n answer.verdict) groups c.answer.ensures.verdict,
-      c.answer.ensures.base ∙ kept.base ∙ new.base,
+      ap vec_len c.answer.ensures.base ∙ kept.base ∙ new.base,
       came.0,
       came.1,
       came.2,
+      subst (λ (b : Vec ℕ Global). Written (vec_items b) came.0.end.base) (sym c.answer.ensures.base) came.3,
     )
 
 pub returns-clause-refused : goal.returns-clause-refused
