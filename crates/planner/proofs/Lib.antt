@@ -2,3 +2,4 @@ pub mod Bases
 pub mod Accepting
 pub mod Goings
 pub mod Openings
+pub mod Once

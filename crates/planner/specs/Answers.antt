@@ -160,3 +160,8 @@ program_order = record { limit = 1; kept = []; candidate = Nothing; below = tt }
 
 abbrev pub AnsweredByProgram : List ℕ → Answer → Type 0
 AnsweredByProgram bs a = (h : Layer (Unit {0})) × (q : ℕ) × Answered (last_conflict fewest_first) geometric bs program program_order h 10 q a
+
+-- Two answers to one job by the same settings, order and policy say the same.
+abbrev pub AnsweredOnce : {H Q : Type 0} → OrderMeaning H → PolicyMeaning Q → Type 0
+AnsweredOnce {H = H} {Q = Q} om pm = (bs : List ℕ) (settings : Settings) (h h1 h2 : H) (q q1 q2 : Q) (a b : Answer)
+    → Answered om pm bs settings h h1 q q1 a → Answered om pm bs settings h h2 q q2 b → (told_by a.verdict ≡ told_by b.verdict) × (a.counts ≡ b.counts) × (vec_items a.base ≡ vec_items b.base)

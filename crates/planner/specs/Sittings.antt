@@ -1,5 +1,5 @@
 -- The sittings of one call, one after another.
-use Rattle.std.specs.Prelude.{ℕ, zero, suc, ◌≢◌, List}
+use Rattle.std.specs.Prelude.{◌≡◌, ℕ, zero, suc, ◌≢◌, List}
 use Rattle.rules.specs.Meanings.{Meaning}
 use Rattle.branching.specs.Order.{OrderMeaning}
 use Rattle.branching.specs.Policy.{PolicyMeaning}
@@ -31,3 +31,8 @@ module _ {H Q : Type 0} (om : OrderMeaning H) (pm : PolicyMeaning Q) where
       none_left : {b : Between H Q} → Ran zero b unsettled b
       settled : {n : ℕ} {b : Between H Q} {v : Verdict} {t : Search} → SitsFrom b v t → v ≢ unsettled → Ran (suc n) b v (left_by b t)
       goes_on : {n : ℕ} {b c : Between H Q} {v : Verdict} {t : Search} → SitsFrom b unsettled t → Ran n (left_by b t) v c → Ran (suc n) b v c
+
+-- The same sittings come to one verdict and one end.
+abbrev pub RanOnce : {H Q : Type 0} → OrderMeaning H → PolicyMeaning Q → Type 0
+RanOnce {H = H} {Q = Q} om pm = (lists : List ℕ) (book : Meaning) (room allowance n : ℕ) (b c d : Between H Q) (v w : Verdict)
+    → Ran om pm lists book room allowance n b v c → Ran om pm lists book room allowance n b w d → (v ≡ w) × (c ≡ d)
