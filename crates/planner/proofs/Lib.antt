@@ -1,1 +1,5 @@
+pub mod Bases
+pub mod Accepting
 pub mod Goings
+pub mod Openings
+pub mod Once

@@ -1,16 +1,28 @@
 -- What an answer has to do with its job.
-use Rattle.std.specs.Prelude.{◌≡◌, ℕ, ◌*◌, ◌⊎◌, List, length, take, vec_items, vec_len}
+use Rattle.std.specs.Prelude.{◌≡◌, ℕ, ◌+◌, ◌*◌, ◌≤◌, ◌⊎◌, List, [], ◌++◌, length, take, replicate, None as Nothing, Ok, Err, Result, vec_items, vec_len}
+use Rattle.jobs.specs.declared.fault.LoadFault.{LoadFault}
 use Rattle.jobs.specs.Jobs.{after, Accepts}
 use Rattle.jobs.specs.Books.{book_of}
+use Rattle.jobs.specs.Numbers.{numbered}
 use Rattle.planner.specs.declared.answer.Answer.{Answer}
 use Rattle.planner.specs.declared.answer.Verdict.{Verdict}
 use Rattle.planner.specs.declared.answer.Verdict.TheVariants.{Plan, None, Open}
 use Rattle.planner.specs.declared.error.PlanError.{PlanError}
+use Rattle.planner.specs.declared.error.PlanError.TheVariants.{Refused, NoMemory}
 use Rattle.planner.specs.declared.memory.Memory.{Memory}
+use Rattle.planner.specs.declared.solve.Settings.{Settings}
 use Rattle.rules.specs.Meanings.{Meaning}
-use Rattle.model.specs.Moves.{State}
+use Rattle.rules.specs.Refusals.{told}
+use Rattle.rules.specs.declared.refusal.Refusal.{Refusal}
+use Rattle.branching.specs.Order.{OrderMeaning}
+use Rattle.branching.specs.Policy.{PolicyMeaning, geometric}
+use Rattle.branching.specs.Fewest.{fewest_first}
+use Rattle.branching.specs.Layer.{Layer, last_conflict}
+use Rattle.model.specs.Words.{base_of, recorded}
+use Rattle.model.specs.Moves.{State, start}
 use Rattle.laws.specs.Sittings.{Verdict as Reached, none, plan, unsettled}
-use Rattle.laws.specs.Runs.{Run}
+use Rattle.laws.specs.Requests.{Request}
+use Rattle.laws.specs.Runs.{Run, Found}
 use Rattle.laws.specs.Law.{Law}
 use Rattle.search.specs.declared.held.Counts.{Counts}
 use Rattle.search.specs.declared.held.OpenSearch.{OpenSearch}
@@ -18,8 +30,10 @@ use Rattle.search.specs.declared.held.Sat.{Sat}
 use Rattle.search.specs.declared.held.Sat.TheVariants.{Plan as SatPlan, None as SatNone, Open as SatOpen}
 use Rattle.search.specs.Ends.{counted}
 use Rattle.search.specs.Turns.{state_of}
-use Rattle.search.specs.Sittings.{Tells}
-use Rattle.planner.specs.Stores.{places, Unstored}
+use Rattle.search.specs.Calls.{asking}
+use Rattle.search.specs.Sittings.{Lent, lent, Tells}
+use Rattle.planner.specs.Sittings.{between, Ran}
+use Rattle.planner.specs.Stores.{places, Faulty, Unstored}
 
 -- a plan has one channel for each of n groups
 abbrev pub Shaped : ℕ → Verdict → Type 0
@@ -32,13 +46,19 @@ abbrev pub Roomy : ℕ → ℕ → Memory → Type 0
 Roomy groups rules m =
     (vec_len m.domains ≡ groups) × (vec_len m.branch ≡ 64 * groups) × (vec_len m.marks ≡ 256) × (vec_len m.ends ≡ 2 * rules) × (vec_len m.settled ≡ groups)
 
--- the plan and the base are as long as they were
-abbrev pub Kept : Memory → Memory → Type 0
-Kept r s = (vec_len s.plan ≡ vec_len r.plan) × (vec_len s.base ≡ vec_len r.base)
+-- each region is as long as it was
+pub record Kept (r s : Memory) : Type 0 where
+  pub domains : vec_len s.domains ≡ vec_len r.domains
+  pub branch : vec_len s.branch ≡ vec_len r.branch
+  pub plan : vec_len s.plan ≡ vec_len r.plan
+  pub base : vec_len s.base ≡ vec_len r.base
+  pub marks : vec_len s.marks ≡ vec_len r.marks
+  pub ends : vec_len s.ends ≡ vec_len r.ends
+  pub settled : vec_len s.settled ≡ vec_len r.settled
 
--- the branch, the plan and the base are as they were
-abbrev pub Unmoved : Memory → Memory → Type 0
-Unmoved r s = (vec_items s.branch ≡ vec_items r.branch) × (vec_items s.plan ≡ vec_items r.plan) × (vec_items s.base ≡ vec_items r.base)
+-- What a sitting in these regions is lent, or leaves.
+abbrev pub lent_of : {O P : Type 0} → Memory → O → P → Lent O P
+lent_of m o p = lent (vec_items m.domains) (vec_items m.branch) (vec_items m.marks) (vec_items m.ends) (vec_items m.settled) (vec_items m.plan) (vec_items m.base) o p
 
 -- The verdict of the sittings, with the bytes of a plan, and their counts.
 abbrev pub reached : List ℕ → Sat → Reached
@@ -52,30 +72,96 @@ told_by (Plan v) = plan (vec_items v)
 told_by None = none
 told_by Open = unsettled
 
--- A run of calls came to the verdict, the law of runs holds of it, and the counts are those of its state.
-abbrev pub Came : Meaning → List ℕ → Reached → Counts → Type 0
-Came book lists v c = (t : State) × (run : Run lists book v t) × Law lists book run × Tells c t
-
 -- A run came to the state that a search and the words of its branch and base stand for.
 abbrev pub Stands : Meaning → List ℕ → OpenSearch → List ℕ → List ℕ → Type 0
 Stands book lists s branch base = Run lists book unsettled (state_of s.at branch base)
 
--- What a sitting makes of every run that came to what it was given: with the branch, the base and the plan that it left.
-abbrev pub GoesOn : Meaning → List ℕ → OpenSearch → List ℕ → List ℕ → List ℕ → List ℕ → List ℕ → Sat → Type 0
-GoesOn book lists s branch base branch' base' bytes (SatPlan d) = Stands book lists s branch base → Came book lists (plan (take (length lists) bytes)) d.counts
-GoesOn book lists s branch base branch' base' bytes (SatNone d) = Stands book lists s branch base → Came book lists none d.counts
-GoesOn book lists s branch base branch' base' bytes (SatOpen t) = Stands book lists s branch base → (run : Stands book lists t branch' base') × Law lists book run
+-- An open search stands, with the branch and the base that are left, for the state.
+abbrev pub StandsFor : Memory → State → Sat → Type 0
+StandsFor m s (SatPlan _) = Unit {0}
+StandsFor m s (SatNone _) = Unit {0}
+StandsFor m s (SatOpen t) = state_of t.at (vec_items m.branch) (vec_items m.base) ≡ s
 
--- What the sittings together make of it.
-abbrev pub Comes : Meaning → List ℕ → OpenSearch → List ℕ → List ℕ → List ℕ → Sat → Type 0
-Comes book lists s branch base bytes t = Stands book lists s branch base → Came book lists (reached (take (length lists) bytes) t) (counted t)
+-- The words are the nogoods recorded, one after another, and zeros behind them.
+abbrev pub Written : List ℕ → List (List ℕ) → Type 0
+Written words nogoods = (k : ℕ) × (words ≡ recorded nogoods ++ replicate k 0)
 
--- An answer comes only to a job without a fault. A run of calls on the job's lists and book came to its verdict and counts, and the law of runs holds of it: so there is no plan
--- where it is "none", and the channels are a plan where it is one. A plan has one channel for each group.
-abbrev pub Answered : List ℕ → ℕ → Answer → Type 0
-Answered bs words a = (i : ℕ) × Accepts bs places i × Shaped (length (after bs i).lists) a.verdict × (vec_len a.base ≡ words)
-    × Came (book_of bs (after bs i)) (after bs i).lists (told_by a.verdict) a.counts
+-- So are those of the base, up to the used ones of a search.
+abbrev pub Clear : OpenSearch → Memory → Type 0
+Clear s m = Written (vec_items m.base) (base_of (take s.at.base_used (vec_items m.base))) × (s.at.base_used ≡ length (recorded (base_of (take s.at.base_used (vec_items m.base)))))
 
--- an error comes with the job's first fault, or without a fault from a call or from want of memory
-abbrev pub Unanswered : List ℕ → PlanError → Type 0
-Unanswered bs e = Unstored bs e ⊎ ((i : ℕ) × Accepts bs places i)
+-- Settings with which no sitting is refused.
+pub record Accepted (s : Settings) : Type 0 where
+  pub base : s.base_words ≤ 65536
+  pub some : 1 ≤ s.allowance
+  pub most : s.allowance ≤ 1000000
+  pub moves : s.sittings * s.allowance ≤ 100000000
+
+-- A sitting as it is checked, in these regions.
+abbrev pub asked : Meaning → List ℕ → ℕ → OpenSearch → Memory → Request
+asked book lists allowance s m =
+    asking s.groups s.at lists book.groups book.count allowance
+    (record { domains = length (vec_items m.domains); marks = length (vec_items m.marks); ends = length (vec_items m.ends); settled = length (vec_items m.settled); plan = length (vec_items m.plan) })
+    (vec_items m.branch) (vec_items m.base)
+
+-- A run came to the search and what the regions hold; these are as large as a sitting asks for, and there is room for the moves of so many sittings.
+pub record Ready (book : Meaning) (lists : List ℕ) (allowance sittings : ℕ) (s : OpenSearch) (m : Memory) : Type 0 where
+  pub stands : Stands book lists s (vec_items m.branch) (vec_items m.base)
+  pub found : Found lists (asked book lists allowance s m) (state_of s.at (vec_items m.branch) (vec_items m.base))
+  pub roomy : Roomy (length lists) book.count m
+  pub plan : vec_len m.plan ≡ length lists
+  pub base : vec_len m.base ≤ 65536
+  pub some : 1 ≤ allowance
+  pub most : allowance ≤ 1000000
+  pub moves : s.at.counts.moves + sittings * allowance ≤ 100000000
+
+module _ {H Q : Type 0} (om : OrderMeaning H) (pm : PolicyMeaning Q) where
+  -- The sittings that the settings ask for came from a state to this verdict, with an order and a policy that held h and q and now hold h' and q'; the counts are those of the
+  -- state that they came to.
+  pub record Comes (book : Meaning) (lists : List ℕ) (room : ℕ) (settings : Settings) (from : State) (h h' : H) (q q' : Q) (v : Reached) (c : Counts) : Type 0 where
+    pub end : State
+    pub ran : Ran om pm lists book room settings.allowance settings.sittings (between from h q) v (between end h' q')
+    pub tells : Tells c end
+
+  -- What the sittings on a search come to, from the regions as they were found to the regions as they are left. Every run that came to what was found goes on to it, and the law
+  -- of runs holds of it; and where the base had nothing but recorded nogoods, it has those of the end.
+  abbrev pub SatOn : Meaning → List ℕ → Settings → OpenSearch → Memory → Memory → H → H → Q → Q → Sat → Type 0
+  SatOn book lists settings s m m' h h' q q' t =
+      (r : Comes book lists (vec_len m.base) settings (state_of s.at (vec_items m.branch) (vec_items m.base)) h h' q q' (reached (take (length lists) (vec_items m'.plan)) t) (counted t))
+      × StandsFor m' r.end t
+      × (Stands book lists s (vec_items m.branch) (vec_items m.base) → (run : Run lists book (reached (take (length lists) (vec_items m'.plan)) t) r.end) × Law lists book run)
+      × (Clear s m → Written (vec_items m'.base) r.end.base)
+
+  -- An answer comes only to a job without a fault. It has the verdict and the counts of the very sittings that the settings ask for, on the job's lists and book. They are a run of
+  -- calls, and the law of runs holds of it: so there is no plan where the verdict is "none", and the channels are a plan where it is one. A plan has one channel for each group.
+  -- The base has the nogoods that were recorded.
+  abbrev pub Answered : List ℕ → Settings → H → H → Q → Q → Answer → Type 0
+  Answered bs settings h h' q q' a = (i : ℕ) × Accepts bs places i × Shaped (length (after bs i).lists) a.verdict × (vec_len a.base ≡ settings.base_words)
+      × (r : Comes (book_of bs (after bs i)) (after bs i).lists settings.base_words settings start h h' q q' (told_by a.verdict) a.counts)
+      × (run : Run (after bs i).lists (book_of bs (after bs i)) (told_by a.verdict) r.end) × Law (after bs i).lists (book_of bs (after bs i)) run
+      × Written (vec_items a.base) r.end.base
+
+-- A refusal is that of the job's first fault; or of a call on a search, where the settings are not accepted. Memory may be wanting at any job.
+abbrev pub Unanswered : List ℕ → Settings → PlanError → Type 0
+Unanswered bs settings (Refused r) = Unstored bs (Refused r) ⊎ (((i : ℕ) × Accepts bs places i) × (Accepted settings → ⊥))
+Unanswered bs settings NoMemory = Unit {0}
+
+-- A job with a fault is refused for the first, and one without is answered, unless memory is wanting.
+pub record RefusedAsLoaded (bs : List ℕ) (r : Result Answer PlanError) : Type 0 where
+  pub faulty : (f : LoadFault) → Faulty bs places f → (r ≡ Err NoMemory) ⊎ ((e : Refusal) × (r ≡ Err (Refused e)) × (told e ≡ (numbered f.fault, f.offset)))
+  pub faultless : (i : ℕ) → Accepts bs places i → (r ≡ Err NoMemory) ⊎ ((a : Answer) × (r ≡ Ok a))
+
+-- What the program searches with: last conflict of one group over fewest first, holding nothing, and geometric cutoffs from 10 on.
+abbrev pub program : Settings
+program = record { base_words = 4096; sittings = 100; allowance = 10000 }
+
+abbrev pub program_order : Layer (Unit {0})
+program_order = record { limit = 1; kept = []; candidate = Nothing; below = tt }
+
+abbrev pub AnsweredByProgram : List ℕ → Answer → Type 0
+AnsweredByProgram bs a = (h : Layer (Unit {0})) × (q : ℕ) × Answered (last_conflict fewest_first) geometric bs program program_order h 10 q a
+
+-- Two answers to one job by the same settings, order and policy say the same.
+abbrev pub AnsweredOnce : {H Q : Type 0} → OrderMeaning H → PolicyMeaning Q → Type 0
+AnsweredOnce {H = H} {Q = Q} om pm = (bs : List ℕ) (settings : Settings) (h h1 h2 : H) (q q1 q2 : Q) (a b : Answer)
+    → Answered om pm bs settings h h1 q q1 a → Answered om pm bs settings h h2 q q2 b → (told_by a.verdict ≡ told_by b.verdict) × (a.counts ≡ b.counts) × (vec_items a.base ≡ vec_items b.base)

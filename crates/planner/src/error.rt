@@ -13,7 +13,7 @@ use std::fmt;
 
 #[derive(Clone, Copy)]
 pub enum PlanError {
-    // The job, or a call on it, is refused.
+    // The job is refused; or a call on it, with settings that the calls do not accept.
     Refused(Refusal),
     // There is no memory for the regions or the answer.
     NoMemory,

@@ -3,6 +3,7 @@
 
 pub mod answer;
 pub mod error;
+pub mod laws;
 pub mod memory;
 pub mod solve;
 pub mod store;

@@ -1,7 +1,8 @@
 // The regions that are lent to the calls on a search, the sittings in them, and what these leave of an answer.
-ghost use Rattle.std.specs.Prelude.{◌≡◌, ◌+◌, IfOk, IfErr, OnErr, vec_items, vec_len};
+ghost use Rattle.std.specs.Prelude.{◌≡◌, ◌+◌, replicate, IfOk, IsOkUnless, vec_items, vec_len};
 ghost use Rattle.search.specs.Sittings.{lent, Answers};
-ghost use Rattle.planner.specs.Answers.{Shaped, Roomy, Kept, Unmoved, GoesOn, reached, told_by};
+ghost use Rattle.planner.specs.Answers.{Shaped, Roomy, Kept, lent_of, reached, told_by};
+ghost use Rattle.planner.specs.declared.error.PlanError.TheVariants.{NoMemory};
 ghost use Rattle.search.specs.Ends.{counted};
 
 use crate::answer::{Answer, Verdict};
@@ -64,7 +65,9 @@ impl Memory {
     pub fn new(heap: Global, store: &Store, base_words: u32) -> Result<Memory, PlanError>
         ensures plan { IfOk result (λ m. vec_len m.plan ≡ vec_len store.now.lists) }
         ensures base { IfOk result (λ m. vec_len m.base ≡ base_words) }
+        ensures zeros { IfOk result (λ m. m.base.items ≡ replicate base_words 0) }
         ensures rest { IfOk result (Roomy (vec_len store.now.lists) (vec_len store.now.gaps + vec_len store.now.tables)) }
+        ensures memory { IsOkUnless result NoMemory }
     {
         let groups = store.lists.len();
         Ok(Memory {
@@ -78,7 +81,7 @@ impl Memory {
         })
     }
 
-    // One sitting in the regions. A refused one hands the search back, and leaves the words and the plan as they were.
+    // One sitting in the regions.
     pub fn sit<B: RuleBook, O: Order, P: RestartPolicy>(
         &mut self,
         search: OpenSearch,
@@ -89,9 +92,7 @@ impl Memory {
         allowance: u32,
     ) -> Result<Sat, (Refusal, OpenSearch)>
         ensures kept { Kept self.old self.new }
-        ensures goes_on { IfOk result (λ t. GoesOn (B.RuleBook.meaning book.now) lists.now «search» self.old.branch.items self.old.base.items self.new.branch.items self.new.base.items self.new.plan.items t) }
-        ensures handed_back { IfErr result (λ e. e.1 ≡ «search») }
-        ensures unmoved { OnErr result (Unmoved self.old self.new) }
+        ensures answers { Answers O.Order.meaning P.RestartPolicy.meaning O.Order.held P.RestartPolicy.held (B.RuleBook.meaning book.now) «search» lists.now allowance (lent_of self.old order.old policy.old) (lent_of self.new order.new policy.new) result }
     {
         sit_in(
             search,
@@ -115,7 +116,7 @@ impl Memory {
         ensures verdict { Shaped (vec_len self.plan) result.verdict }
         ensures told { told_by result.verdict ≡ reached self.plan.items sat }
         ensures counts { result.counts ≡ counted sat }
-        ensures base { vec_len result.base ≡ vec_len self.base }
+        ensures base { result.base ≡ self.base }
     {
         let Memory { plan, base, .. } = self;
         let counts = sat.counts();

@@ -1,8 +1,9 @@
 // The search for a plan of a job: its memory, its sittings and its answer.
-ghost use Rattle.std.specs.Prelude.{◌≡◌, ◌<◌, ◌≤◌, length, IfOk, Err, MatchResult};
+ghost use Rattle.std.specs.Prelude.{◌≡◌, ◌<◌, ◌≤◌, length, IfOk, IsOk, Err, MatchResult};
 ghost use Rattle.rules.specs.declared.refusal.Refusal.TheVariants.{NoPlace};
 ghost use Rattle.planner.specs.declared.error.PlanError.TheVariants.{Refused};
-ghost use Rattle.planner.specs.Answers.{Kept, GoesOn, Comes, Answered, Unanswered};
+ghost use Rattle.planner.specs.Answers.{Kept, Accepted, Ready, SatOn, Answered, Unanswered, RefusedAsLoaded, AnsweredByProgram};
+ghost use Rattle.planner.specs.Stores.{Unstored};
 
 use crate::answer::Answer;
 use crate::error::PlanError;
@@ -44,8 +45,8 @@ pub fn sit_on<B: RuleBook, O: Order, P: RestartPolicy>(
     memory: &mut Memory,
 ) -> Result<Sat, PlanError>
     ensures kept { Kept memory.old memory.new }
-    ensures goes_on { IfOk result (λ t. GoesOn (B.RuleBook.meaning book.now) lists.now «search» memory.old.branch.items memory.old.base.items memory.new.branch.items memory.new.base.items memory.new.plan.items t) }
-    ensures comes { IfOk result (λ t. Comes (B.RuleBook.meaning book.now) lists.now «search» memory.old.branch.items memory.old.base.items memory.new.plan.items t) }
+    ensures sat { IfOk result (SatOn O.Order.meaning P.RestartPolicy.meaning (B.RuleBook.meaning book.now) lists.now settings «search» memory.old memory.new (O.Order.held order.old) (O.Order.held order.new) (P.RestartPolicy.held policy.old) (P.RestartPolicy.held policy.new)) }
+    ensures taken { Ready (B.RuleBook.meaning book.now) lists.now settings.allowance settings.sittings «search» memory.old → IsOk result }
 {
     // It repeats so often, and indexes nothing.
     for _sitting in 0..settings.sittings {
@@ -65,7 +66,8 @@ pub fn solve<O: Order, P: RestartPolicy>(
     policy: &mut P,
     settings: Settings,
 ) -> Result<Answer, PlanError>
-    ensures { MatchResult result (λ a. Answered job.now settings.base_words a) (λ e. Unanswered job.now e) }
+    ensures answers { MatchResult result (Answered O.meaning P.meaning job.now settings (O.held order.old) (O.held order.new) (P.held policy.old) (P.held policy.new)) (Unanswered job.now settings) }
+    ensures refused { Accepted settings → RefusedAsLoaded job.now result }
 {
     let store = Store::load(heap, job)?;
     let mut memory = Memory::new(heap, &store, settings.base_words)?;
@@ -79,7 +81,8 @@ pub fn solve<O: Order, P: RestartPolicy>(
 // What the program answers to the bytes on its input.
 pub fn plan(heap: Global, job: &[u8]) -> Result<Answer, PlanError>
     ensures long { 65536 < length job.now → result ≡ Err (Refused (NoPlace 65536)) }
-    ensures short { length job.now ≤ 65536 → MatchResult result (λ a. Answered job.now 4096 a) (λ e. Unanswered job.now e) }
+    ensures short { length job.now ≤ 65536 → MatchResult result (AnsweredByProgram job.now) (Unstored job.now) }
+    ensures refused { length job.now ≤ 65536 → RefusedAsLoaded job.now result }
 {
     if job.len() > LONGEST_JOB {
         return Err(PlanError::Refused(Refusal::NoPlace(LONGEST_JOB)));

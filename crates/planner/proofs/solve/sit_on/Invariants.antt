@@ -1,11 +1,8 @@
-use Rattle.std.proofs.Common.{vec_items}
-use Rattle.laws.specs.Law.{Law}
-use Rattle.planner.specs.Answers.{Kept, Stands}
+use Rattle.std.proofs.Common.{◌-◌}
+use Rattle.planner.proofs.Goings.{Along}
 use Rattle.planner.proofs.solve.sit_on.Given as goal
 
 abbrev pub invariant-loop-sitting : goal.invariant-loop-sitting
-invariant-loop-sitting g l = record {
-  kept : Kept l.initial.memory l.memory;
-  stands : Stands (g.B.RuleBook.meaning l.book) l.lists l.initial.search (vec_items l.initial.memory.branch) (vec_items l.initial.memory.base)
-      → (run : Stands (g.B.RuleBook.meaning l.book) l.lists l.search (vec_items l.memory.branch) (vec_items l.memory.base)) × Law l.lists (g.B.RuleBook.meaning l.book) run;
-}
+invariant-loop-sitting g l =
+    Along g.O.Order.meaning g.P.RestartPolicy.meaning g.O.Order.held g.P.RestartPolicy.held (g.B.RuleBook.meaning l.book) l.lists l.settings l.initial.search l.initial.memory l.initial.order l.initial.policy
+    (l.settings.sittings - l._sitting) l.search l.memory l.order l.policy
