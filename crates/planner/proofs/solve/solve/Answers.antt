@@ -28,7 +28,7 @@ returns-in_err-search-clause-answers g c =
     let st = c.in_ok-store.ensures in
     let store = c.in_ok-store.store in
     let own : c.as_slice-lists.result.now ≡ (after bs st.0).lists = c.as_slice-lists.ensures.value ∙ st.3 in
-    let book = c.book-book.ensures.stands ∙ book_same bs (after bs st.0) store.loaded c.deref.result.now c.deref-2.result.now st.2 (c.deref.ensures.value ∙ st.4) (c.deref-2.ensures.value ∙ st.5) in
+    let book = c.book-book.ensures.stands ∙ book_same bs (after bs st.0) c.loaded.result c.deref.result.now c.deref-2.result.now (c.loaded.ensures ∙ st.2) (c.deref.ensures.value ∙ st.4) (c.deref-2.ensures.value ∙ st.5) in
     absurd (open_taken bs store st _ c.as_slice-lists.result.now book own c.in_err-search.field-0.0 c.in_err-search.ensures)
 
 pub returns-in_err-search-clause-refused : goal.returns-in_err-search-clause-refused
@@ -40,7 +40,7 @@ returns-in_err-sat-clause-answers g c =
     let st = c.in_ok-store.ensures in
     let store = c.in_ok-store.store in
     let own : c.as_slice-lists.result.now ≡ (after bs st.0).lists = c.as_slice-lists.ensures.value ∙ st.3 in
-    let book = c.book-book.ensures.stands ∙ book_same bs (after bs st.0) store.loaded c.deref.result.now c.deref-2.result.now st.2 (c.deref.ensures.value ∙ st.4) (c.deref-2.ensures.value ∙ st.5) in
+    let book = c.book-book.ensures.stands ∙ book_same bs (after bs st.0) c.loaded.result c.deref.result.now c.deref-2.result.now (c.loaded.ensures ∙ st.2) (c.deref.ensures.value ∙ st.4) (c.deref-2.ensures.value ∙ st.5) in
     let new = c.in_ok-memory.ensures in
     passed_on c.from_residual-in_err-sat.result _ _ _ c.from_residual-in_err-sat.ensures.1
     (λ e x. called_off bs c.args.settings e st.0 st.1
