@@ -28,7 +28,7 @@ returns-in_err-search-clause-answers g c =
     let st = c.in_ok-store.ensures in
     let store = c.in_ok-store.store in
     let own : c.as_slice-lists.result.now ≡ (after bs st.0).lists = c.as_slice-lists.ensures.value ∙ st.3 in
-    let book = c.book-book.ensures.stands ∙ book_same bs (after bs st.0) store.loaded c.deref.result.now c.deref-2.result.now st.2 (c.deref.ensures.value ∙ st.4) (c.deref-2.ensures.value ∙ st.5) in
+    let book = c.book-book.ensures.stands ∙ book_same bs (after bs st.0) _ c.deref.result.now c.deref-2.result.now st.2 (c.deref.ensures.value ∙ st.4) (c.deref-2.ensures.value ∙ st.5) in
     absurd (open_taken bs store st _ c.as_slice-lists.result.now book own c.in_err-search.field-0.0 c.in_err-search.ensures)
 
 pub returns-in_err-search-clause-refused : goal.returns-in_err-search-clause-refused
@@ -40,7 +40,7 @@ returns-in_err-sat-clause-answers g c =
     let st = c.in_ok-store.ensures in
     let store = c.in_ok-store.store in
     let own : c.as_slice-lists.result.now ≡ (after bs st.0).lists = c.as_slice-lists.ensures.value ∙ st.3 in
-    let book = c.book-book.ensures.stands ∙ book_same bs (after bs st.0) store.loaded c.deref.result.now c.deref-2.result.now st.2 (c.deref.ensures.value ∙ st.4) (c.deref-2.ensures.value ∙ st.5) in
+    let book = c.book-book.ensures.stands ∙ book_same bs (after bs st.0) _ c.deref.result.now c.deref-2.result.now st.2 (c.deref.ensures.value ∙ st.4) (c.deref-2.ensures.value ∙ st.5) in
     let new = c.in_ok-memory.ensures in
     passed_on c.from_residual-in_err-sat.result _ _ _ c.from_residual-in_err-sat.ensures.1
     (λ e x. called_off bs c.args.settings e st.0 st.1
@@ -65,7 +65,7 @@ returns-clause-answers g c =
     let groups : vec_len plan ≡ length job.lists = kept.plan ∙ new.plan ∙ store.lists.ok.0 ∙ ap length st.3 in
     let own : lists ≡ job.lists = c.as_slice-lists.ensures.value ∙ st.3 in
     let long : length (vec_items plan) ≡ length lists = sym plan.ok.0 ∙ groups ∙ sym (ap length own) in
-    let book = c.book-book.ensures.stands ∙ book_same bs job store.loaded c.deref.result.now c.deref-2.result.now st.2 (c.deref.ensures.value ∙ st.4) (c.deref-2.ensures.value ∙ st.5) in
+    let book = c.book-book.ensures.stands ∙ book_same bs job _ c.deref.result.now c.deref-2.result.now st.2 (c.deref.ensures.value ∙ st.4) (c.deref-2.ensures.value ∙ st.5) in
     let verdict : reached (take (length lists) (vec_items plan)) sat ≡ told_by answer.verdict =
     ap (λ (xs : List ℕ). reached xs sat) (take_all (length lists) (vec_items plan) (omega arith)) ∙ sym c.answer.ensures.told in
     let came = came_home _ _ _ (book_of bs job) lists job.lists c.in_ok-search.search c.args.settings _ _ _ _ sat (told_by answer.verdict) answer.counts memory c.sit_on.new.memory
