@@ -2,8 +2,8 @@
 #![tactic(auto)]
 
 pub mod answer;
+pub mod decided;
 pub mod error;
-pub mod laws;
 pub mod memory;
 pub mod solve;
 pub mod store;

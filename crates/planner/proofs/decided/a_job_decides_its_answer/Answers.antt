@@ -1,5 +1,5 @@
 use Rattle.planner.proofs.Once.{one_answer}
-use Rattle.planner.proofs.laws.a_job_decides_its_answer.Goals as goal
+use Rattle.planner.proofs.decided.a_job_decides_its_answer.Goals as goal
 
 pub returns : goal.returns
 returns g c = one_answer g.O.Order.meaning g.P.RestartPolicy.meaning

@@ -1,5 +1,5 @@
 use Rattle.planner.proofs.Once.{one_end}
-use Rattle.planner.proofs.laws.sittings_have_one_end.Goals as goal
+use Rattle.planner.proofs.decided.sittings_have_one_end.Goals as goal
 
 pub returns : goal.returns
 returns g c = one_end g.O.Order.meaning g.P.RestartPolicy.meaning
