@@ -1,0 +1,4 @@
+mod Numbers
+mod Spans
+mod Readings
+mod Records

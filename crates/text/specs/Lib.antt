@@ -1,0 +1,3 @@
+pub mod Words
+pub mod Lists
+pub mod Texts

@@ -1,0 +1,11 @@
+// Jobs as text: one item a line, read into what the writer of jobs takes, and written from the bytes of a job.
+#![tactic(auto)]
+
+pub mod draft;
+pub mod fault;
+pub mod line;
+pub mod list;
+pub mod read;
+pub mod span;
+pub mod word;
+pub mod write;
