@@ -2,3 +2,5 @@ mod Numbers
 mod Spans
 mod Readings
 mod Records
+mod Says
+mod Drafting

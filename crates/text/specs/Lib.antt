@@ -1,3 +1,5 @@
 pub mod Words
 pub mod Lists
+pub mod Lines
+pub mod Drafts
 pub mod Texts

@@ -24,3 +24,7 @@ after_word bs = cond (has_byte 32 bs) (trim (behind 32 bs)) []
 -- the number that a word says, where it is below a limit: one digit or more, and nothing else
 abbrev pub number_said : ℕ → List ℕ → Option ℕ
 number_said limit w = cond (nat_lt 0 (length w) && all_ascii_digits w && nat_lt (digits_value 10 w) limit) (Some (digits_value 10 w)) None
+
+-- what stands before a comment (35), without spaces around
+abbrev pub said : List ℕ → List ℕ
+said bs = trim (cond (has_byte 35 bs) (before 35 bs) bs)

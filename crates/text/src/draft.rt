@@ -1,5 +1,5 @@
 // A job in the making: its items, and the rows of its tables.
-ghost use Rattle.std.specs.Prelude.{◌≡◌, ◌+◌, ◌*◌, ◌≤◌, ◌<◌, [], ◌∷◌, ◌++◌, vec_len, OnOk};
+ghost use Rattle.std.specs.Prelude.{◌≡◌, ◌+◌, ◌*◌, ◌≤◌, ◌<◌, [], ◌∷◌, ◌++◌, ◌⊎◌, None, vec_len, MatchResult};
 ghost use Rattle.std.specs.Option.{ForSome};
 
 use super::fault::Wrong;
@@ -29,8 +29,13 @@ pub struct Draft {
 }
 
 impl Draft {
+    // These name the struct itself, so they are brought in here and not above it.
+    ghost use Rattle.text.specs.Drafts.{made, nothing, Adding};
+
     // Of no item.
-    pub fn new(heap: Global) -> Draft {
+    pub fn new(heap: Global) -> Draft
+        ensures { made result ≡ nothing }
+    {
         Draft {
             items: Vec::new(heap),
             rows: Vec::new(heap),
@@ -40,7 +45,7 @@ impl Draft {
 
     // Adds an item.
     fn add_item(&mut self, item: Item) -> Result<(), Wrong<'static>>
-        ensures items { OnOk result (self.new.items.items ≡ self.old.items.items ++ item ∷ []) }
+        ensures items { MatchResult result (λ _. (vec_len self.old.items < 65535) × (self.new.items.items ≡ self.old.items.items ++ item ∷ [])) (λ w. (w ≡ Wrong.NoMemory) ⊎ ((w ≡ Wrong.TooMany) × (65535 ≤ vec_len self.old.items))) }
         ensures rows { self.new.rows.items ≡ self.old.rows.items }
         ensures given { self.new.given ≡ self.old.given }
     {
@@ -51,8 +56,20 @@ impl Draft {
         Ok(())
     }
 
+    // Adds a group or a gap.
+    fn add_plain(&mut self, item: Item) -> Result<(), Wrong<'static>>
+        ensures items { MatchResult result (λ _. (vec_len self.old.items < 65535) × (self.new.items.items ≡ self.old.items.items ++ item ∷ [])) (λ w. (w ≡ Wrong.NoMemory) ⊎ ((w ≡ Wrong.TooMany) × (65535 ≤ vec_len self.old.items))) }
+        ensures rows { self.new.rows.items ≡ self.old.rows.items }
+        ensures given { self.new.given ≡ None }
+    {
+        self.given = None;
+        self.add_item(item)
+    }
+
     // Adds a table of no pairs.
-    fn add_table(&mut self, first: u16, second: u16) -> Result<(), Wrong<'static>> {
+    fn add_table(&mut self, first: u16, second: u16) -> Result<(), Wrong<'static>>
+        ensures { Adding (made self.old) (Line.Table first second) result (made self.new) }
+    {
         let offset = self.rows.len() as u32;
         self.add_item(Item::Rows(TableEntry {
             first,
@@ -65,7 +82,9 @@ impl Draft {
     }
 
     // Gives the last table the row of a channel.
-    fn add_row(&mut self, channel: u8, list: u64) -> Result<(), Wrong<'static>> {
+    fn add_row(&mut self, channel: u8, list: u64) -> Result<(), Wrong<'static>>
+        ensures { Adding (made self.old) (Line.Row channel list) result (made self.new) }
+    {
         let Some(given) = self.given else {
             return Err(Wrong::NoTable);
         };
@@ -79,17 +98,13 @@ impl Draft {
     }
 
     // Adds what a line says.
-    pub fn add(&mut self, line: Line) -> Result<(), Wrong<'static>> {
+    pub fn add(&mut self, line: Line) -> Result<(), Wrong<'static>>
+        ensures { Adding (made self.old) line result (made self.new) }
+    {
         match line {
             Line::Blank => Ok(()),
-            Line::Group(list) => {
-                self.given = None;
-                self.add_item(Item::Channels(list))
-            }
-            Line::Gap(entry) => {
-                self.given = None;
-                self.add_item(Item::Near(entry))
-            }
+            Line::Group(list) => self.add_plain(Item::Channels(list)),
+            Line::Gap(entry) => self.add_plain(Item::Near(entry)),
             Line::Table(first, second) => self.add_table(first, second),
             Line::Row(channel, list) => self.add_row(channel, list),
         }

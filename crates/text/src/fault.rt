@@ -1,4 +1,7 @@
 // Why a text is no job: the line, and what is wrong there.
+ghost use Rattle.std.specs.Prelude.{◌≡◌};
+ghost use Rattle.text.specs.declared.fault.Wrong.TheVariants.{NoMemory};
+
 use std::alloc::{AllocError, AllocFailed};
 use std::fmt;
 
@@ -43,13 +46,18 @@ pub struct TextFault<'t> {
     pub wrong: Wrong<'t>,
 }
 
+// The conversions are by hand, since contracts read what `from_gives` says.
 impl<'t> From<AllocError> for Wrong<'t> {
+    ghost from_gives = { λ _ w. w ≡ NoMemory };
+
     fn from(_e: AllocError) -> Wrong<'t> {
         Wrong::NoMemory
     }
 }
 
 impl<'t, T: Drop> From<AllocFailed<T>> for Wrong<'t> {
+    ghost from_gives = { λ _ w. w ≡ NoMemory };
+
     fn from(_e: AllocFailed<T>) -> Wrong<'t> {
         Wrong::NoMemory
     }
@@ -68,11 +76,28 @@ impl fmt::Display for Expected {
     }
 }
 
+// The front of what a line has, as far as one line of an account takes it.
+#[derive(Clone, Copy)]
+struct Shown<'t>(&'t str);
+
+impl<'t> fmt::Display for Shown<'t> {
+    fn fmt<W: fmt::Write>(&self, f: &mut fmt::Formatter<W>) -> fmt::Result {
+        for c in self.0.chars().take(40) {
+            let shown = if c.is_control() { '?' } else { c };
+            write!(f, "{shown}")?;
+        }
+        Ok(())
+    }
+}
+
 impl<'t> fmt::Display for Wrong<'t> {
     fn fmt<W: fmt::Write>(&self, f: &mut fmt::Formatter<W>) -> fmt::Result {
         match *self {
             Wrong::Found(expected, "") => write!(f, "expected {expected}, found nothing"),
-            Wrong::Found(expected, found) => write!(f, "expected {expected}, found `{found}`"),
+            Wrong::Found(expected, found) => {
+                let shown = Shown(found);
+                write!(f, "expected {expected}, found `{shown}`")
+            }
             Wrong::NoTable => write!(f, "expected a table before this row"),
             Wrong::SecondRow(channel) => {
                 write!(f, "expected each row once, found row {channel} again")
