@@ -4,3 +4,5 @@ mod Readings
 mod Records
 mod Says
 mod Drafting
+mod Building
+mod Soundness

@@ -1,6 +1,8 @@
 -- A job in the making. Assumes nothing.
-use Rattle.std.specs.Prelude.{◌≡◌, ℕ, ◌+◌, ◌-◌, ◌*◌, ◌^◌, ◌⊎◌, cond, List, [], ◌∷◌, ◌++◌, length, take, drop, replicate, Some, None, Option, Result, MatchResult, nat_lt, nat_le, bit_or, vec_items}
+use Rattle.std.specs.Prelude.{◌≡◌, ℕ, ◌+◌, ◌-◌, ◌*◌, ◌^◌, ◌⊎◌, cond, List, [], ◌∷◌, ◌++◌, length, take, drop, replicate, Some, None, Option, Result, MatchResult, ◌==◌, nat_lt, nat_le, bit_or, vec_items}
 use Rattle.std.specs.Int.{to_be_bytes, w64}
+use Rattle.std.specs.List.{slice_split}
+use Rattle.std.specs.Str.{IsUtf8}
 use Rattle.rules.specs.Channels.{has}
 use Rattle.jobs.specs.declared.item.Item.{Item}
 use Rattle.jobs.specs.declared.item.Item.TheVariants.{Channels, Near, Rows}
@@ -9,6 +11,7 @@ use Rattle.text.specs.declared.fault.Wrong.TheVariants.{NoTable, SecondRow, TooM
 use Rattle.text.specs.declared.line.Line.{Line}
 use Rattle.text.specs.declared.line.Line.TheVariants.{Blank, Group, Gap, Table, Row}
 use Rattle.text.specs.declared.draft.Draft.{Draft}
+use Rattle.text.specs.Lines.{Told, told, IsLine}
 
 -- the items, the rows of the tables one table after another, and the set of rows that the last item was given, where it is a table
 pub record Made : Type 0 where
@@ -64,3 +67,39 @@ wrong m (Row c l) = row_wrong m.given c
 -- what adding a line answers, and what it leaves: with a fault nothing is said of what is left
 abbrev pub Adding : Made → Line → Result (Unit {0}) Wrong → Made → Type 0
 Adding m l r n = MatchResult r (λ _. (wrong m l ≡ None) × (n ≡ added m l)) (λ w. (w ≡ NoMemory) ⊎ (wrong m l ≡ Some w))
+
+-- a line that is taken in says an item, which is added
+pub record Takes (m : Made) (w : List ℕ) (n : Made) : Type 0 where
+  pub says : Told
+  pub line : Line
+  pub said : told w ≡ Some says
+  pub means : IsLine says line
+  pub fits : wrong m line ≡ None
+  pub adds : n ≡ added m line
+
+-- why a line is not taken in: it is no text, or says nothing, or what it says is not added, or there is no memory
+pub data Refuses (m : Made) (w : List ℕ) (x : Wrong) : Type 0 where
+  no_text : ¬ (IsUtf8 w) → Refuses m w x
+  no_item : told w ≡ None → Refuses m w x
+  not_added : (t : Told) (l : Line) → told w ≡ Some t → IsLine t l → wrong m l ≡ Some x → Refuses m w x
+  no_memory : x ≡ NoMemory → Refuses m w x
+
+-- the lines of a text, the byte 10 between them
+abbrev pub lines : List ℕ → List (List ℕ)
+lines bs = slice_split (λ b. b == 10) bs
+
+-- what lines build, one after another
+abbrev pub Builds : Made → List (List ℕ) → Made → Type 0
+Builds m [] n = n ≡ m
+Builds m (w ∷ ws) n = (k : Made) × Takes m w k × Builds k ws n
+
+-- the first line that is not taken in, where k lines stand before it
+pub record Stuck (text : List ℕ) (k : ℕ) (x : Wrong) : Type 0 where
+  pub before : List (List ℕ)
+  pub line : List ℕ
+  pub behind : List (List ℕ)
+  pub made : Made
+  pub split : lines text ≡ before ++ (line ∷ behind)
+  pub count : length before ≡ k
+  pub builds : Builds nothing before made
+  pub refuses : Refuses made line x
