@@ -6,3 +6,4 @@ mod Says
 mod Drafting
 mod Building
 mod Soundness
+mod Prints

@@ -3,3 +3,4 @@ pub mod Lists
 pub mod Lines
 pub mod Drafts
 pub mod Texts
+pub mod Laws
