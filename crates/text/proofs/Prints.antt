@@ -1,15 +1,15 @@
 -- A list that is written says its spans.
-use Rattle.std.proofs.Common.{◌≡◌, ℕ, suc, ◌+◌, ◌^◌, ◌<◌, ◌≤◌, ◌==◌, Bool, true, false, not, ◌&&◌, cond, List, [], ◌∷◌, ◌++◌, length, map, take, drop, Some, None, Option, refl, sym, subst, ap, ◌∙◌, arith, nat_lt, nat_le, decimal, length-append, append-nil}
+use Rattle.std.proofs.Common.{◌≡◌, ℕ, suc, ◌+◌, ◌^◌, ◌<◌, ◌≤◌, ◌==◌, Bool, true, false, ◌&&◌, cond, List, [], ◌∷◌, ◌++◌, length, map, take, drop, Some, None, refl, ap, ◌∙◌, arith, nat_lt, decimal, length-append, append-nil}
 use Rattle.std.proofs.lemmas.Bool.Decides.{nat_tests}
 use Rattle.std.proofs.lemmas.Fmt.{digits_decimal, digits_value-decimal, decimal_nonempty}
 use Rattle.std.proofs.lemmas.List.Splits.{slice_split_first}
 use Rattle.std.proofs.Math.Seq.{take-append_seam, drop-append-add, take-length}
 use Rattle.std.specs.Char.{is_ascii_digit}
-use Rattle.std.specs.List.{position_or_len, slice_split, flat_map}
+use Rattle.std.specs.List.{position_or_len, flat_map}
 use Rattle.std.specs.Str.{all_ascii_digits}
 use Rattle.text.specs.declared.span.Span.{Span}
 use Rattle.text.specs.Words.{has_byte, before, behind, number_said}
-use Rattle.text.specs.Lists.{Ends, ends, spanned, span_said, onto, spans_said, pieces, list_said, span_text, list_text}
+use Rattle.text.specs.Lists.{ends, spanned, span_said, onto, spans_said, pieces, list_said, span_text, list_text}
 use Rattle.text.proofs.Numbers.{own}
 use Rattle.text.proofs.Readings.{one_piece}
 

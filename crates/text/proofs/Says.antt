@@ -1,12 +1,11 @@
 -- What a line says, from what its parts say.
-use Rattle.std.proofs.Common.{◌≡◌, ℕ, ◌<◌, ◌==◌, Bool, true, false, List, length, Some, None, Option, refl, sym, ◌∙◌, ap, arith, nat_lt}
+use Rattle.std.proofs.Common.{◌≡◌, ℕ, ◌<◌, ◌==◌, true, List, length, Some, None, Option, refl, ◌∙◌, ap, arith, nat_lt}
 use Rattle.std.proofs.lemmas.Bool.Decides.{nat_tests}
 use Rattle.std.specs.List.{position_or_len}
 use Rattle.std.specs.Str.{trim}
 use Rattle.text.specs.declared.line.Keyword as keys
-use Rattle.text.specs.Words.{word, after_word, number_said, before, behind, said, has_byte}
-use Rattle.text.specs.Lists.{Ends}
-use Rattle.text.specs.Lines.{Told, keyword, lone_said, row_of, row_told, item_told, told}
+use Rattle.text.specs.Words.{word, number_said, before, behind, said, has_byte}
+use Rattle.text.specs.Lines.{keyword, lone_said, row_of, row_told, item_told, told}
 
 has_it : (n m : ℕ) → n < m → nat_lt n m ≡ true
 has_it n m h = grind (arith, nat_tests)

@@ -1,5 +1,5 @@
 -- What lines build has no flaw for the writer of jobs.
-use Rattle.std.proofs.Common.{◌≡◌, ℕ, zero, suc, ◌+◌, ◌-◌, ◌*◌, ◌<◌, ◌≤◌, List, [], ◌∷◌, ◌++◌, length, take, drop, replicate, Some, None, Option, refl, sym, ◌∙◌, ap, subst, arith, nat_lt, nat_le, length-append, cond, slice_index_or}
+use Rattle.std.proofs.Common.{◌≡◌, ℕ, zero, suc, ◌+◌, ◌-◌, ◌*◌, ◌<◌, ◌≤◌, List, [], ◌∷◌, ◌++◌, length, replicate, Some, None, Option, refl, sym, ◌∙◌, ap, subst, arith, nat_lt, length-append, cond, slice_index_or}
 use Rattle.std.proofs.lemmas.Bool.Decides.{nat_tests}
 use Rattle.std.proofs.lemmas.List.{length-drop, length-take-le, length-replicate}
 use Rattle.std.specs.Int.{to_be_bytes, w64}
@@ -8,9 +8,8 @@ use Rattle.jobs.specs.declared.item.Item.TheVariants.{Counts, Channels, Near, Ro
 use Rattle.jobs.specs.Writes.{Flawless, flaw, nth_item}
 use Rattle.text.specs.declared.line.Line.{Line}
 use Rattle.text.specs.declared.line.Line.TheVariants.{Blank, Group, Gap, Table, Row}
-use Rattle.text.specs.declared.fault.Wrong.{Wrong}
 use Rattle.text.specs.declared.fault.Wrong.TheVariants.{TooMany}
-use Rattle.text.specs.Drafts.{Made, nothing, with_item, replaced, with_row, row_added, added, full, row_wrong, wrong, Takes, Builds}
+use Rattle.text.specs.Drafts.{Made, nothing, with_item, replaced, with_row, row_added, added, full, row_wrong, wrong, Builds}
 
 -- an item whose rows stand in n bytes
 abbrev pub Fits : ℕ → Item → Type 0

@@ -1,11 +1,13 @@
 -- The channels that spans list.
-use Rattle.std.proofs.Common.{◌≡◌, ℕ, ◌+◌, ◌≤◌, Bool, true, false, ◌||◌, ◌==◌, ◌-◌, ◌*◌, ◌/◌, ◌%◌, ◌^◌, ◌<◌, ◌&&◌, min, max, bit_and, bit_or, nat_lt, nat_le, List, [], ◌∷◌, ◌++◌, arith, refl, ◌∙◌, ap}
+use Rattle.std.proofs.Common.{◌≡◌, ℕ, ◌+◌, ◌≤◌, Bool, true, false, ◌||◌, ◌==◌, ◌-◌, ◌*◌, ◌/◌, ◌%◌, ◌^◌, ◌<◌, ◌&&◌, min, max, bit_and, bit_or, nat_lt, nat_le, List, [], ◌∷◌, ◌++◌, arith, refl, ◌∙◌, ap, subst, append_assoc, map, sym}
 use Rattle.std.proofs.lemmas.Bool.Decides.{nat_tests}
 use Rattle.std.proofs.lemmas.List.Folds.{list_any-append}
 use Rattle.std.proofs.lemmas.Nat.Bits.{bit_at_and, bit_at_or, bit_at_ones, bit_at_ones_above, bit_at_mask_below, bit_at_mask_inside, bit_at-lt, bit_at_above, ones_shr, ones_shl}
 use Rattle.std.specs.Int.{bit_at}
 use Rattle.rules.specs.Channels.{has}
-use Rattle.text.specs.Lists.{Ends, covers, listed}
+use Rattle.std.proofs.lemmas.List.{map-append}
+use Rattle.text.specs.declared.span.Span.{Span}
+use Rattle.text.specs.Lists.{Ends, Apart, Below, covers, listed, ends}
 
 or_false : (b : Bool) → (b || false) ≡ b
 or_false true = refl
@@ -47,3 +49,84 @@ all_of x n c false b e h k = grind (arith, nat_tests)
 
 pub all_passed : (set n : ℕ) (xs : List Ends) → set < 2 ^ 64 → 64 ≤ n → ((c : ℕ) → listed xs c ≡ (nat_lt c n && has set c)) → (c : ℕ) → has set c ≡ listed xs c
 all_passed set n xs h k e c = all_of n n c (listed xs c) (has set c) refl (e c) (λ l. has_high set c h (omega (arith, k, l)))
+
+-- spans with one more, or with a longer last one, and with the bounds that they keep
+below_wider : (n m : ℕ) (xs : List Ends) → n ≤ m → Below n xs → Below m xs
+below_wider n m [] h b = tt
+below_wider n m (x ∷ xs) h b = (omega (arith, b.0, h), below_wider n m xs h b.1)
+
+below_push : (n : ℕ) (xs : List Ends) (s : Ends) → Below n xs → s.1 < n → Below n (xs ++ (s ∷ []))
+below_push n [] s b h = (h, tt)
+below_push n (x ∷ xs) s b h = (b.0, below_push n xs s b.1 h)
+
+below_front : (n : ℕ) (xs : List Ends) (s : Ends) → Below n (xs ++ (s ∷ [])) → Below n xs × (s.1 < n)
+below_front n [] s b = (tt, b.0)
+below_front n (x ∷ xs) s b = let r = below_front n xs s b.1 in ((b.0, r.0), r.1)
+
+apart_longer : (n : ℕ) (xs : List Ends) (s t : Ends) → t.0 ≡ s.0 → Apart n (xs ++ (s ∷ [])) → Apart n (xs ++ (t ∷ []))
+apart_longer n [] s t e a = (omega (arith, a.0, e), tt)
+apart_longer n (x ∷ xs) s t e a = (a.0, apart_longer (x.1 + 2) xs s t e a.1)
+
+apart_next : (n : ℕ) (xs : List Ends) (s t : Ends) → Apart n (xs ++ (s ∷ [])) → s.1 + 2 ≤ t.0 → Apart n (xs ++ (s ∷ t ∷ []))
+apart_next n [] s t a h = (a.0, (h, tt))
+apart_next n (x ∷ xs) s t a h = (a.0, apart_next (x.1 + 2) xs s t a.1 h)
+
+-- spans that end with a channel
+pub record Fit (c : ℕ) (ss : List Ends) : Type 0 where
+  pub below : Below (c + 1) ss
+  pub apart : Apart 0 ss
+
+pub first_fits : (c : ℕ) → Fit c ((c, c) ∷ [])
+first_fits c = record { below = (omega arith, tt); apart = (omega arith, tt) }
+
+pub longer_fits : (c : ℕ) (xs : List Ends) (s : Ends) → Below c (xs ++ (s ∷ [])) → Apart 0 (xs ++ (s ∷ [])) → Fit c (xs ++ ((s.0, c) ∷ []))
+longer_fits c xs s b a = record {
+  below = below_push (c + 1) xs (s.0, c) (below_wider c (c + 1) xs (omega arith) (below_front c xs s b).0) (omega arith);
+  apart = apart_longer 0 xs s (s.0, c) refl a;
+}
+
+pub next_fits : (c : ℕ) (xs : List Ends) (s : Ends) → Below c (xs ++ (s ∷ [])) → Apart 0 (xs ++ (s ∷ [])) → (s.1 + 1 ≡ c → ⊥) → Fit c (xs ++ (s ∷ (c, c) ∷ []))
+next_fits c xs s b a n =
+    let f = below_front c xs s b in
+    record {
+      below = subst (Below (c + 1)) (append_assoc xs (s ∷ []) ((c, c) ∷ [])) (below_push (c + 1) (xs ++ (s ∷ [])) (c, c) (below_wider c (c + 1) (xs ++ (s ∷ [])) (omega arith) b) (omega arith));
+      apart = apart_next 0 xs s (c, c) a (apart_gap s.1 c f.1 n);
+    }
+  where
+    apart_gap : (l c : ℕ) → l < c → (l + 1 ≡ c → ⊥) → l + 2 ≤ c
+    apart_gap l c h n = omega (arith, h, n)
+
+pub skip_fits : (c : ℕ) (xs : List Ends) → Below c xs → Below (c + 1) xs
+skip_fits c xs b = below_wider c (c + 1) xs (omega arith) b
+
+-- the same of spans as the code has them
+pub span_longer : (c : ℕ) (old xs new : List Span) (top next : Span) → old ≡ xs ++ (top ∷ []) → new ≡ xs ++ (next ∷ []) → ends next ≡ (top.first, c) → Below c (map ends old) → Apart 0 (map ends old) → Fit c (map ends new)
+span_longer c old xs new top next o n e b a =
+    let was : map ends old ≡ map ends xs ++ (ends top ∷ []) = ap (λ (l : List Span). map ends l) o ∙ map-append ends xs (top ∷ []) in
+    let is : map ends new ≡ map ends xs ++ ((top.first, c) ∷ []) = ap (λ (l : List Span). map ends l) n ∙ map-append ends xs (next ∷ []) ∙ ap (λ (s : Ends). map ends xs ++ (s ∷ [])) e in
+    subst (Fit c) (sym is) (longer_fits c (map ends xs) (ends top) (subst (Below c) was b) (subst (Apart 0) was a))
+
+pub span_next : (c : ℕ) (old xs mid new : List Span) (top lone : Span) → old ≡ xs ++ (top ∷ []) → mid ≡ xs ++ (top ∷ []) → new ≡ mid ++ (lone ∷ []) → ends lone ≡ (c, c) → (top.last + 1 ≡ c → ⊥) → Below c (map ends old) → Apart 0 (map ends old) → Fit c (map ends new)
+span_next c old xs mid new top lone o m n e far b a =
+    let was : map ends old ≡ map ends xs ++ (ends top ∷ []) = ap (λ (l : List Span). map ends l) o ∙ map-append ends xs (top ∷ []) in
+    let whole : new ≡ xs ++ (top ∷ lone ∷ []) = n ∙ ap (λ (l : List Span). l ++ (lone ∷ [])) m ∙ append_assoc xs (top ∷ []) (lone ∷ []) in
+    let is : map ends new ≡ map ends xs ++ (ends top ∷ (c, c) ∷ []) = ap (λ (l : List Span). map ends l) whole ∙ map-append ends xs (top ∷ lone ∷ []) ∙ ap (λ (s : Ends). map ends xs ++ (ends top ∷ s ∷ [])) e in
+    subst (Fit c) (sym is) (next_fits c (map ends xs) (ends top) (subst (Below c) was b) (subst (Apart 0) was a) far)
+
+-- one channel more is passed
+with_it : (l m h : Bool) (c n : ℕ) → m ≡ (l || (c == n)) → l ≡ (nat_lt c n && h) → (c ≡ n → h ≡ true) → m ≡ (nat_lt c (n + 1) && h)
+with_it l m true c n e f g = rw (e, f) (grind (arith, nat_tests))
+with_it l m false c n e f g = rw (e, f) (grind (arith, nat_tests, g))
+
+without_it : (l h : Bool) (c n : ℕ) → l ≡ (nat_lt c n && h) → (c ≡ n → h ≡ false) → l ≡ (nat_lt c (n + 1) && h)
+without_it l true c n f g = rw f (grind (arith, nat_tests, g))
+without_it l false c n f g = rw f (grind (arith, nat_tests))
+
+in_set : (set n : ℕ) (r : Bool) → r ≡ (nat_lt n 64 && has set n) → n < 64 → r ≡ has set n
+in_set set n r e h = grind (arith, nat_tests)
+
+pub passed_with : (set n : ℕ) (xs ys : List Ends) (r : Bool) → n < 64 → r ≡ (nat_lt n 64 && has set n) → r ≡ true → ((c : ℕ) → listed ys c ≡ (listed xs c || (c == n))) → ((c : ℕ) → listed xs c ≡ (nat_lt c n && has set c)) → (c : ℕ) → listed ys c ≡ (nat_lt c (n + 1) && has set c)
+passed_with set n xs ys r h e t f g c = with_it (listed xs c) (listed ys c) (has set c) c n (f c) (g c) (λ k. ap (has set) k ∙ sym (in_set set n r e h) ∙ t)
+
+pub passed_without : (set n : ℕ) (xs : List Ends) (r : Bool) → n < 64 → r ≡ (nat_lt n 64 && has set n) → r ≡ false → ((c : ℕ) → listed xs c ≡ (nat_lt c n && has set c)) → (c : ℕ) → listed xs c ≡ (nat_lt c (n + 1) && has set c)
+passed_without set n xs r h e t g c = without_it (listed xs c) (has set c) c n (g c) (λ k. ap (has set) k ∙ sym (in_set set n r e h) ∙ t)

@@ -1,5 +1,5 @@
 -- A job in the making. Assumes nothing.
-use Rattle.std.specs.Prelude.{◌≡◌, ℕ, ◌+◌, ◌-◌, ◌*◌, ◌^◌, ◌⊎◌, cond, List, [], ◌∷◌, ◌++◌, length, take, drop, replicate, Some, None, Option, Result, MatchResult, ◌==◌, nat_lt, nat_le, bit_or, vec_items}
+use Rattle.std.specs.Prelude.{◌≡◌, ℕ, ◌+◌, ◌-◌, ◌*◌, ◌^◌, ◌⊎◌, cond, List, [], ◌∷◌, ◌++◌, length, take, drop, replicate, Some, None, Option, Result, MatchResult, ◌==◌, nat_lt, bit_or, vec_items}
 use Rattle.std.specs.Int.{to_be_bytes, w64}
 use Rattle.std.specs.List.{slice_split}
 use Rattle.std.specs.Str.{IsUtf8}

@@ -1,5 +1,5 @@
 -- What a list of channels says, and how one is written. Assumes nothing.
-use Rattle.std.specs.Prelude.{ℕ, Bool, cond, ◌&&◌, List, [], ◌∷◌, ◌++◌, length, Some, None, Option, ◌==◌, nat_le, decimal}
+use Rattle.std.specs.Prelude.{ℕ, ◌+◌, ◌<◌, ◌≤◌, Bool, cond, ◌&&◌, List, [], ◌∷◌, ◌++◌, length, Some, None, Option, ◌==◌, nat_le, decimal}
 use Rattle.std.specs.List.{list_any, slice_split, flat_map}
 use Rattle.text.specs.declared.span.Span.{Span}
 use Rattle.text.specs.Words.{has_byte, before, behind, number_said}
@@ -14,6 +14,16 @@ covers s c = nat_le s.0 c && nat_le c s.1
 -- whether one of some spans has a channel
 abbrev pub listed : List Ends → ℕ → Bool
 listed ss c = list_any (λ s. covers s c) ss
+
+-- no span begins below a channel, and each begins at least two channels above the end of the one before: none can be joined
+abbrev pub Apart : ℕ → List Ends → Type 0
+Apart n [] = Unit {0}
+Apart n (s ∷ ss) = (n ≤ s.0) × Apart (s.1 + 2) ss
+
+-- all end below a channel
+abbrev pub Below : ℕ → List Ends → Type 0
+Below n [] = Unit {0}
+Below n (s ∷ ss) = (s.1 < n) × Below n ss
 
 abbrev pub ends : Span → Ends
 ends s = (s.first, s.last)

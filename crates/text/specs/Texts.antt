@@ -1,8 +1,7 @@
 -- How a job is written as text. Assumes nothing.
-use Rattle.std.specs.Prelude.{◌≡◌, ℕ, zero, suc, ◌+◌, ◌*◌, ◌<◌, ◌⊎◌, Bool, true, false, cond, List, [], ◌∷◌, ◌++◌, map, codes, decimal, ◌==◌, MatchBool}
+use Rattle.std.specs.Prelude.{◌≡◌, ℕ, zero, suc, List, [], ◌++◌, map, codes, decimal, ◌==◌, MatchBool}
 use Rattle.rules.specs.Channels.{has}
 use Rattle.rules.specs.Tables.{number, row}
-use Rattle.jobs.specs.declared.fault.LoadFault.{LoadFault}
 use Rattle.jobs.specs.declared.judge.Room.{Room}
 use Rattle.jobs.specs.declared.record.Record.{Record}
 use Rattle.jobs.specs.declared.record.Record.TheVariants.{End, Group, Gap, Table}
@@ -11,7 +10,7 @@ use Rattle.jobs.specs.Jobs.{after, Accepts, Refuses}
 use Rattle.text.specs.declared.span.Span.{Span}
 use Rattle.text.specs.declared.write.WriteFault.{WriteFault}
 use Rattle.text.specs.declared.write.WriteFault.TheVariants.{Refused, NoMemory}
-use Rattle.text.specs.Lists.{listed, ends, list_text}
+use Rattle.text.specs.Lists.{Apart, listed, ends, list_text}
 
 -- how many bytes a record takes, with its byte of kind
 abbrev pub size_of : Record → ℕ
@@ -29,9 +28,9 @@ abbrev pub Unwritten : List ℕ → WriteFault → Type 0
 Unwritten job (Refused f) = (i : ℕ) × Refuses job places f i
 Unwritten job NoMemory = Unit {0}
 
--- some text for a set, behind the word of an item: spans with just its channels
+-- the text of a set, behind the word of an item: spans with just its channels, of which none can be joined
 abbrev pub ListText : ℕ → List ℕ → Type 0
-ListText set bs = (ss : List Span) × ((c : ℕ) → has set c ≡ listed (map ends ss) c) × (bs ≡ list_text ss)
+ListText set bs = (ss : List Span) × ((c : ℕ) → has set c ≡ listed (map ends ss) c) × Apart 0 (map ends ss) × (bs ≡ list_text ss)
 
 -- the line of a row, if the row has a channel
 abbrev pub RowText : ℕ → ℕ → List ℕ → Type 0

@@ -8,5 +8,7 @@ pub mod line;
 pub mod list;
 pub mod read;
 pub mod span;
+#[cfg(test)]
+mod tests;
 pub mod word;
 pub mod write;

@@ -1,7 +1,7 @@
 // Lists of channels: a text read as a set, and a set written with its ranges merged.
-ghost use Rattle.std.specs.Prelude.{◌≡◌, ℕ, ◌<◌, ◌||◌, List, map, Some, None, MatchResult, IfOk, OnOk, ◌==◌};
+ghost use Rattle.std.specs.Prelude.{◌≡◌, ℕ, ◌+◌, ◌<◌, ◌||◌, List, map, Some, None, MatchResult, IfOk, OnOk, ◌==◌};
 ghost use Rattle.rules.specs.Channels.{has};
-ghost use Rattle.text.specs.Lists.{Ends, ends, listed, list_said, list_text};
+ghost use Rattle.text.specs.Lists.{Ends, Apart, Below, ends, listed, list_said, list_text};
 
 use super::fault::Wrong;
 use super::span::Span;
@@ -33,8 +33,12 @@ pub struct ChannelList {
 
 // Adds a channel: to the last span, where it follows it, and else as a span of its own.
 fn add_channel(spans: &mut Vec<Span>, channel: u8) -> Result<(), AllocError>
-    requires { channel < 64 }
-    ensures { OnOk result ((c : ℕ) → listed (map ends spans.new.items) c ≡ (listed (map ends spans.old.items) c || (c == channel))) }
+    requires low { channel < 64 }
+    requires above { Below channel (map ends spans.old.items) }
+    requires apart { Apart 0 (map ends spans.old.items) }
+    ensures channels { OnOk result ((c : ℕ) → listed (map ends spans.new.items) c ≡ (listed (map ends spans.old.items) c || (c == channel))) }
+    ensures below { OnOk result (Below (channel + 1) (map ends spans.new.items)) }
+    ensures apart { OnOk result (Apart 0 (map ends spans.new.items)) }
 {
     let lone = Span {
         first: channel,
@@ -57,7 +61,8 @@ fn add_channel(spans: &mut Vec<Span>, channel: u8) -> Result<(), AllocError>
 impl ChannelList {
     // The spans of a set, as few as can be, from the lowest on.
     pub fn new(heap: Global, set: u64) -> Result<ChannelList, AllocError>
-        ensures { IfOk result (λ l. (c : ℕ) → has set c ≡ listed (map ends l.spans.items) c) }
+        ensures channels { IfOk result (λ l. (c : ℕ) → has set c ≡ listed (map ends l.spans.items) c) }
+        ensures apart { IfOk result (λ l. Apart 0 (map ends l.spans.items)) }
     {
         let mut spans = Vec::new(heap);
         for channel in 0..64u8 {

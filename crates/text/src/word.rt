@@ -27,10 +27,7 @@ pub fn number(word: &str) -> Option<u16>
 pub fn small_number(word: &str) -> Option<u8>
     ensures { MatchOption result (number_said 256 word.now ≡ None) (λ n. number_said 256 word.now ≡ Some n) }
 {
-    if word.starts_with('+') {
-        return None;
-    }
-    word.parse().ok()
+    u8::try_from(number(word)?).ok()
 }
 
 // The channel that a word says.

@@ -1,6 +1,6 @@
-use Rattle.std.proofs.Common.{◌≡◌, Some, None, rules, refl, ◌∙◌, ap}
+use Rattle.std.proofs.Common.{◌≡◌, None, rules, refl, ◌∙◌, ap}
 use Rattle.text.specs.declared.line.Keyword as keys
-use Rattle.text.specs.Lines.{Told, group, gap, table, row, told, group_told}
+use Rattle.text.specs.Lines.{group, gap, table, row, told, group_told}
 use Rattle.text.proofs.Says.{line_is}
 use Rattle.text.proofs.line.read_line.Goals as goal
 

@@ -1,4 +1,4 @@
-use Rattle.std.proofs.Common.{◌-◌, ◌+◌, take, drop, length, ap, ◌∙◌, sym, arith}
+use Rattle.std.proofs.Common.{◌+◌, take, drop, ap, ◌∙◌}
 use Rattle.std.proofs.lemmas.List.{take_rest}
 use Rattle.text.proofs.Building.{found, missing, no_byte}
 use Rattle.text.proofs.read.cut_line.Goals as goal

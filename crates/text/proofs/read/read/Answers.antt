@@ -1,7 +1,7 @@
-use Rattle.std.proofs.Common.{◌≡◌, ℕ, true, false, Some, None, refl}
+use Rattle.std.proofs.Common.{◌≡◌, true, false, Some, None, refl}
 use Rattle.std.specs.Option.{option_copied}
 use Rattle.text.specs.Words.{has_byte, behind}
-use Rattle.text.specs.Drafts.{made, lines, Stuck}
+use Rattle.text.specs.Drafts.{made, lines}
 use Rattle.text.proofs.Building.{Reads, cut_left, copied_match, reads_more, reads_stuck, reads_all}
 use Rattle.text.proofs.Soundness.{built_flawless}
 use Rattle.text.proofs.read.read.Goals as goal

@@ -1,4 +1,3 @@
-use Rattle.std.proofs.Common.{◌≡◌, ℕ}
 use Rattle.std.specs.Option.{option_copied}
 use Rattle.text.specs.Drafts.{made}
 use Rattle.text.proofs.Building.{Reads, bytes_left}

@@ -1,5 +1,4 @@
 use Rattle.std.proofs.Common.{ℕ, ◌+◌, ◌++◌, subst, sym, ap, ◌∙◌, append_assoc, append-nil, string_bytes, arith}
-use Rattle.text.specs.Texts.{size_of}
 use Rattle.text.proofs.Records.{Written, fits, some_bytes, written_none, written_more, written_all}
 use Rattle.text.proofs.write.write_records.Goals as goal
 

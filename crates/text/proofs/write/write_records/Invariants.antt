@@ -1,6 +1,4 @@
-use Rattle.std.proofs.Common.{◌≡◌, ℕ, ◌-◌, ◌≤◌, List, ◌++◌, length, string_bytes}
-use Rattle.jobs.specs.Jobs.{after, Sound}
-use Rattle.text.specs.Texts.{places, RecordsText}
+use Rattle.std.proofs.Common.{◌≡◌, ℕ, ◌-◌, List, ◌++◌, length, string_bytes}
 use Rattle.text.proofs.Records.{Written}
 use Rattle.text.proofs.write.write_records.Given as goal
 

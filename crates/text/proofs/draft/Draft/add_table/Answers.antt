@@ -1,4 +1,4 @@
-use Rattle.std.proofs.Common.{◌≡◌, ℕ, [], ◌∷◌, ◌++◌, length, Some, replicate, vec_items, rules, arith, ◌∙◌, ap}
+use Rattle.std.proofs.Common.{◌≡◌, [], ◌∷◌, ◌++◌, length, Some, replicate, vec_items, rules, ◌∙◌, ap}
 use Rattle.jobs.specs.declared.item.Item.TheVariants.{Rows}
 use Rattle.text.proofs.Drafting.{not_full, same_made}
 use Rattle.text.proofs.draft.Draft.add_table.Goals as goal
