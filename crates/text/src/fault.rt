@@ -1,0 +1,118 @@
+// Why a text is no job: the line, and what is wrong there.
+ghost use Rattle.std.specs.Prelude.{◌≡◌};
+ghost use Rattle.text.specs.declared.fault.Wrong.TheVariants.{NoMemory};
+
+use std::alloc::{AllocError, AllocFailed};
+use std::fmt;
+
+// What a line should have where something else stands.
+#[derive(Clone, Copy, PartialEq, Eq, Debug)]
+pub enum Expected {
+    // The first word of an item.
+    Item,
+    // A group, from 0 to 65535.
+    Group,
+    // A distance, from 0 to 255.
+    Distance,
+    // A channel, from 0 to 63.
+    Channel,
+    // A range whose last channel is not below its first.
+    RisingRange,
+    // The end of the line.
+    End,
+}
+
+// What is wrong with a line.
+#[derive(Clone, Copy)]
+pub enum Wrong<'t> {
+    // Something else stands where this is expected; the text is empty where nothing does.
+    Found(Expected, &'t str),
+    // A row stands before any table, or behind a group or a gap.
+    NoTable,
+    // The table has the row of this channel already.
+    SecondRow(u8),
+    // The line is no UTF-8.
+    NotText,
+    // It is item 65,536.
+    TooMany,
+    // There is no memory for what it says.
+    NoMemory,
+}
+
+// The first line at which a text is no job, counted from 1.
+#[derive(Clone, Copy)]
+pub struct TextFault<'t> {
+    pub line: usize,
+    pub wrong: Wrong<'t>,
+}
+
+// The conversions are by hand, since contracts read what `from_gives` says.
+impl<'t> From<AllocError> for Wrong<'t> {
+    ghost from_gives = { λ _ w. w ≡ NoMemory };
+
+    fn from(_e: AllocError) -> Wrong<'t> {
+        Wrong::NoMemory
+    }
+}
+
+impl<'t, T: Drop> From<AllocFailed<T>> for Wrong<'t> {
+    ghost from_gives = { λ _ w. w ≡ NoMemory };
+
+    fn from(_e: AllocFailed<T>) -> Wrong<'t> {
+        Wrong::NoMemory
+    }
+}
+
+impl fmt::Display for Expected {
+    fn fmt<W: fmt::Write>(&self, f: &mut fmt::Formatter<W>) -> fmt::Result {
+        match self {
+            Expected::Item => write!(f, "`group`, `gap`, `table` or a row"),
+            Expected::Group => write!(f, "a group from 0 to 65535"),
+            Expected::Distance => write!(f, "a distance from 0 to 255"),
+            Expected::Channel => write!(f, "a channel from 0 to 63"),
+            Expected::RisingRange => write!(f, "a range that does not go down"),
+            Expected::End => write!(f, "the end of the line"),
+        }
+    }
+}
+
+// The front of what a line has, as far as one line of an account takes it.
+#[derive(Clone, Copy)]
+struct Shown<'t>(&'t str);
+
+impl<'t> fmt::Display for Shown<'t> {
+    fn fmt<W: fmt::Write>(&self, f: &mut fmt::Formatter<W>) -> fmt::Result {
+        for c in self.0.chars().take(40) {
+            let shown = if c.is_control() { '?' } else { c };
+            write!(f, "{shown}")?;
+        }
+        Ok(())
+    }
+}
+
+impl<'t> fmt::Display for Wrong<'t> {
+    fn fmt<W: fmt::Write>(&self, f: &mut fmt::Formatter<W>) -> fmt::Result {
+        match *self {
+            Wrong::Found(expected, "") => write!(f, "expected {expected}, found nothing"),
+            Wrong::Found(expected, found) => {
+                let shown = Shown(found);
+                write!(f, "expected {expected}, found `{shown}`")
+            }
+            Wrong::NoTable => write!(f, "expected a table before this row"),
+            Wrong::SecondRow(channel) => {
+                write!(f, "expected each row once, found row {channel} again")
+            }
+            Wrong::NotText => write!(f, "expected text in UTF-8"),
+            Wrong::TooMany => write!(f, "expected no more than 65535 items"),
+            Wrong::NoMemory => write!(f, "no memory"),
+        }
+    }
+}
+
+impl<'t> fmt::Display for TextFault<'t> {
+    fn fmt<W: fmt::Write>(&self, f: &mut fmt::Formatter<W>) -> fmt::Result {
+        let line = self.line;
+        let wrong = self.wrong;
+        write!(f, "line {line}: {wrong}")
+    }
+}
