@@ -97,7 +97,7 @@ module _ {O P H Q : Type 0} {om : OrderMeaning H} {pm : PolicyMeaning Q} {oh : O
     record { end = state_of s.at (vec_items m.branch) (vec_items m.base); ran = along.onward unsettled _ none_left; tells = record { moves = refl; closings = refl; restarts = refl } },
     refl,
     along.runs,
-    λ clear. (along.clear clear).0,
+    along.clear,
   )
 
   module _ {s0 : OpenSearch} {m0 : Memory} {o0 : O} {p0 : P} {n : ℕ} {s : OpenSearch} {m : Memory} {o : O} {p : P} (along : Along om pm oh ph book lists settings s0 m0 o0 p0 (suc n) s m o p) where
@@ -138,8 +138,8 @@ module _ {O P H Q : Type 0} {om : OrderMeaning H} {pm : PolicyMeaning Q} {oh : O
 
       pub along_settled : (sat : Sat) → ((t : OpenSearch) → sat ≡ SatOpen t → ⊥) → Answer om pm oh ph book lists settings s m o p m' o' p' (Ok sat) → SatOn om pm book lists settings s0 m0 m' (oh o0) (oh o') (ph p0) (ph p') sat
       unfolding settling
-      along_settled (SatPlan d) closed a = (settling _ a.0.0 d.counts (plan_open _) a.0.1 a.0.2, tt, running _ a.0.0 a.0.1, written _ a.0.0 a.0.1)
-      along_settled (SatNone d) closed a = (settling none a.0.0 d.counts none_open a.0.1 a.0.2, tt, running none a.0.0 a.0.1, written none a.0.0 a.0.1)
+      along_settled (SatPlan d) closed a = (settling _ d.at d.at.counts (plan_open _) a.0.0 a.0.1, a.0.0.state, running _ d.at a.0.0, λ clear. (written _ d.at a.0.0 clear, a.0.0.used))
+      along_settled (SatNone d) closed a = (settling none d.at d.at.counts none_open a.0.0 a.0.1, a.0.0.state, running none d.at a.0.0, λ clear. (written none d.at a.0.0 clear, a.0.0.used))
       along_settled (SatOpen t) closed a = absurd (closed t refl)
 
       -- It is not refused where the first was to be ready for all.

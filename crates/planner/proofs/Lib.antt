@@ -3,3 +3,4 @@ pub mod Accepting
 pub mod Goings
 pub mod Openings
 pub mod Once
+pub mod Reports

@@ -9,7 +9,7 @@ use Rattle.branching.specs.Order.{OrderMeaning}
 use Rattle.branching.specs.Policy.{PolicyMeaning, geometric}
 use Rattle.branching.specs.Fewest.{fewest_first}
 use Rattle.branching.specs.Layer.{Layer, last_conflict}
-use Rattle.model.specs.Words.{branch_of}
+use Rattle.model.specs.Words.{branch_of, recorded}
 use Rattle.model.specs.Moves.{State, start}
 use Rattle.laws.specs.Sittings.{Verdict as Reached, unsettled}
 use Rattle.laws.specs.Runs.{Run}
@@ -17,7 +17,7 @@ use Rattle.laws.specs.Law.{Law}
 use Rattle.search.specs.declared.held.Counts.{Counts}
 use Rattle.search.specs.declared.held.OpenSearch.{OpenSearch}
 use Rattle.search.specs.declared.held.Sat.{Sat}
-use Rattle.search.specs.Ends.{counted}
+use Rattle.search.specs.Ends.{counted, came_to}
 use Rattle.search.specs.Sittings.{Opened, Unopened}
 use Rattle.jobs.specs.declared.load.Loaded.{Loaded}
 use Rattle.jobs.specs.declared.fault.LoadFault.{LoadFault}
@@ -37,7 +37,7 @@ use Rattle.planner.specs.declared.store.Store.{Store}
 use Rattle.planner.specs.Stores.{places, Stored, Unstored}
 use Rattle.jobs.proofs.Binds.{book_binds}
 use Rattle.planner.specs.Sittings.{between, Ran}
-use Rattle.planner.specs.Answers.{Roomy, Accepted, Written, Clear, Ready, Comes, SatOn, reached, Answered, Unanswered, RefusedAsLoaded, program, program_order, AnsweredByProgram}
+use Rattle.planner.specs.Answers.{Shaped, Roomy, Accepted, StandsFor, Written, Clear, Ready, Comes, SatOn, Searched, reached, told_by, Answered, Unanswered, RefusedAsLoaded, program, program_order, AnsweredByProgram}
 use Rattle.planner.proofs.Accepting.{opens, none≢some}
 
 -- The book of what was loaded.
@@ -98,17 +98,21 @@ module _ {H Q : Type 0} (om : OrderMeaning H) (pm : PolicyMeaning Q) where
   clear_new book lists s words m o e = rw (o.used) ((words, e), refl)
 
   -- What came, told of the job's own lists and book.
-  abbrev Home : Meaning → List ℕ → Settings → H → H → Q → Q → Reached → Counts → List ℕ → Type 0
-  Home book lists settings h h' q q' v c words = (r : Comes om pm book lists settings.base_words settings start h h' q q' v c) × (run : Run lists book v r.end) × Law lists book run × Written words r.end.base
+  abbrev Told : Meaning → List ℕ → Settings → H → H → Q → Q → Reached → Counts → List ℕ → Type 0
+  Told book lists settings h h' q q' v c words = (r : Comes om pm book lists settings.base_words settings start h h' q q' v c) × (run : Run lists book v r.end) × Law lists book run × Written words r.end.base
 
-  pub came_home : (m m' : Meaning) (ls ls' : List ℕ) (s : OpenSearch) (settings : Settings) (h h' : H) (q q' : Q) (t : Sat) (v : Reached) (c : Counts) (r r' : Memory) → Opened m ls s
-      → SatOn om pm m ls settings s r r' h h' q q' t → m ≡ m' → ls ≡ ls' → vec_len r.base ≡ settings.base_words → reached (take (length ls) (vec_items r'.plan)) t ≡ v → counted t ≡ c → vec_items r.base ≡ replicate settings.base_words 0
-      → Home m' ls' settings h h' q q' v c (vec_items r'.base)
-  came_home m m' ls ls' s settings h h' q q' t v c r r' o x eb el er ev ec ez =
+  abbrev Home : Meaning → List ℕ → Settings → H → H → Q → Q → Reached → Memory → Sat → Type 0
+  Home book lists settings h h' q q' v m t = (r : Comes om pm book lists settings.base_words settings start h h' q q' v (counted t)) × (run : Run lists book v r.end) × Law lists book run
+      × (Written (vec_items m.base) r.end.base × ((came_to t).base_used ≡ length (recorded r.end.base))) × StandsFor m r.end t
+
+  pub came_home : (m m' : Meaning) (ls ls' : List ℕ) (s : OpenSearch) (settings : Settings) (h h' : H) (q q' : Q) (t : Sat) (v : Reached) (r r' : Memory) → Opened m ls s
+      → SatOn om pm m ls settings s r r' h h' q q' t → m ≡ m' → ls ≡ ls' → vec_len r.base ≡ settings.base_words → reached (take (length ls) (vec_items r'.plan)) t ≡ v → vec_items r.base ≡ replicate settings.base_words 0
+      → Home m' ls' settings h h' q q' v r' t
+  came_home m m' ls ls' s settings h h' q q' t v r r' o x eb el er ev ez =
       let state = o.state (vec_items r.branch) (vec_items r.base) in
       let k = x.2 (subst (λ (z : State). Run ls m unsettled z) (sym state) o.begins.0) in
       let w = reached (take (length ls) (vec_items r'.plan)) t in
-      let home : Home m ls settings h h' q q' w (counted t) (vec_items r'.base) = (
+      let home : Home m ls settings h h' q q' w r' t = (
         record {
           end = x.0.end;
           ran = subst (λ (k : ℕ). Ran om pm ls m k settings.allowance settings.sittings (between start h q) w (between x.0.end h' q')) er
@@ -118,8 +122,32 @@ module _ {H Q : Type 0} (om : OrderMeaning H) (pm : PolicyMeaning Q) where
         k.0,
         k.1,
         x.3 (clear_new m ls s settings.base_words r o ez),
+        x.1,
       ) in
-      rw (eb, ev, ec, el) at home
+      rw (eb, ev, el) at home
+
+  -- The same, told in other words.
+  told_same : (book : Meaning) (lists : List ℕ) (settings : Settings) (h h' : H) (q q' : Q) (v w : Reached) (c d : Counts) (ws xs : List ℕ) → w ≡ v → d ≡ c → xs ≡ ws
+      → (x : Told book lists settings h h' q q' v c ws) → (y : Told book lists settings h h' q q' w d xs) × (y.0.end ≡ x.0.end)
+  told_same book lists settings h h' q q' v w c d ws xs ev ec ew x = rw (ev, ec, ew) (x, refl)
+
+  -- What is told of a search is an answer.
+  pub answered : (bs : List ℕ) (settings : Settings) (h h' : H) (q q' : Q) (m : Memory) (t : Sat) (x : Searched om pm bs settings h h' q q' m t) (a : Answer)
+      → Shaped (vec_len m.plan) a.verdict → told_by a.verdict ≡ reached (vec_items m.plan) t → a.counts ≡ counted t → a.base ≡ m.base → (y : Answered om pm bs settings h h' q q' a) × (y.4.end ≡ x.came.end)
+  answered bs settings h h' q q' m t x a shaped verdict counts base =
+      let k = told_same (book_of bs (after bs x.job)) (after bs x.job).lists settings h h' q q' _ _ _ _ _ _ verdict counts (ap vec_items base) (x.came, x.run, x.law, x.written) in (
+        (
+          x.job,
+          x.accepts,
+          subst (λ (n : ℕ). Shaped n a.verdict) x.plan shaped,
+          ap vec_len base ∙ x.base,
+          k.0.0,
+          k.0.1,
+          k.0.2,
+          k.0.3,
+        ),
+        k.1,
+      )
 
 -- A job is loaded or has one first fault.
 module _ (bs : List ℕ) (m : Room) where
@@ -141,7 +169,7 @@ module _ (bs : List ℕ) (m : Room) where
 
 -- What is said of the answers decides which jobs are refused.
 module _ (bs : List ℕ) (settings : Settings) where
-  no_answer : (P : Answer → Type 0) (r : Result Answer PlanError) → MatchResult r P (Unanswered bs settings) → Accepted settings → ((a : Answer) → P a → (i : ℕ) × Accepts bs places i) → RefusedAsLoaded bs r
+  pub no_answer : {A : Type 0} (P : A → Type 0) (r : Result A PlanError) → MatchResult r P (Unanswered bs settings) → Accepted settings → ((a : A) → P a → (i : ℕ) × Accepts bs places i) → RefusedAsLoaded bs r
   no_answer P (Ok a) h z has = record {
     faulty = λ f x. absurd (apart bs places (has a h).0 (has a h).1 f x.0 x.1);
     faultless = λ i x. inr (a, refl);

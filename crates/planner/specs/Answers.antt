@@ -28,7 +28,7 @@ use Rattle.search.specs.declared.held.Counts.{Counts}
 use Rattle.search.specs.declared.held.OpenSearch.{OpenSearch}
 use Rattle.search.specs.declared.held.Sat.{Sat}
 use Rattle.search.specs.declared.held.Sat.TheVariants.{Plan as SatPlan, None as SatNone, Open as SatOpen}
-use Rattle.search.specs.Ends.{counted}
+use Rattle.search.specs.Ends.{counted, came_to}
 use Rattle.search.specs.Turns.{state_of}
 use Rattle.search.specs.Calls.{asking}
 use Rattle.search.specs.Sittings.{Lent, lent, Tells}
@@ -76,11 +76,9 @@ told_by Open = unsettled
 abbrev pub Stands : Meaning → List ℕ → OpenSearch → List ℕ → List ℕ → Type 0
 Stands book lists s branch base = Run lists book unsettled (state_of s.at branch base)
 
--- An open search stands, with the branch and the base that are left, for the state.
+-- The numbers that a search came to stand, with the branch and the base that are left, for the state.
 abbrev pub StandsFor : Memory → State → Sat → Type 0
-StandsFor m s (SatPlan _) = Unit {0}
-StandsFor m s (SatNone _) = Unit {0}
-StandsFor m s (SatOpen t) = state_of t.at (vec_items m.branch) (vec_items m.base) ≡ s
+StandsFor m s t = state_of (came_to t) (vec_items m.branch) (vec_items m.base) ≡ s
 
 -- The words are the nogoods recorded, one after another, and zeros behind them.
 abbrev pub Written : List ℕ → List (List ℕ) → Type 0
@@ -124,13 +122,28 @@ module _ {H Q : Type 0} (om : OrderMeaning H) (pm : PolicyMeaning Q) where
     pub tells : Tells c end
 
   -- What the sittings on a search come to, from the regions as they were found to the regions as they are left. Every run that came to what was found goes on to it, and the law
-  -- of runs holds of it; and where the base had nothing but recorded nogoods, it has those of the end.
+  -- of runs holds of it; and where the base had nothing but recorded nogoods, it has those of the end, in its used words.
   abbrev pub SatOn : Meaning → List ℕ → Settings → OpenSearch → Memory → Memory → H → H → Q → Q → Sat → Type 0
   SatOn book lists settings s m m' h h' q q' t =
       (r : Comes book lists (vec_len m.base) settings (state_of s.at (vec_items m.branch) (vec_items m.base)) h h' q q' (reached (take (length lists) (vec_items m'.plan)) t) (counted t))
       × StandsFor m' r.end t
       × (Stands book lists s (vec_items m.branch) (vec_items m.base) → (run : Run lists book (reached (take (length lists) (vec_items m'.plan)) t) r.end) × Law lists book run)
-      × (Clear s m → Written (vec_items m'.base) r.end.base)
+      × (Clear s m → Written (vec_items m'.base) r.end.base × ((came_to t).base_used ≡ length (recorded r.end.base)))
+
+  -- What the sittings on a job without a fault leave in the regions that are made for it: the settings' sittings on its lists and book came to the state that the words of the branch
+  -- and the base stand for. They are a run of calls, and the law of runs holds of it.
+  pub record Searched (bs : List ℕ) (settings : Settings) (h h' : H) (q q' : Q) (m : Memory) (t : Sat) : Type 0 where
+    pub job : ℕ
+    pub accepts : Accepts bs places job
+    pub plan : vec_len m.plan ≡ length (after bs job).lists
+    pub branch : vec_len m.branch ≡ 64 * length (after bs job).lists
+    pub base : vec_len m.base ≡ settings.base_words
+    pub came : Comes (book_of bs (after bs job)) (after bs job).lists settings.base_words settings start h h' q q' (reached (vec_items m.plan) t) (counted t)
+    pub run : Run (after bs job).lists (book_of bs (after bs job)) (reached (vec_items m.plan) t) came.end
+    pub law : Law (after bs job).lists (book_of bs (after bs job)) run
+    pub written : Written (vec_items m.base) came.end.base
+    pub stands : StandsFor m came.end t
+    pub used : (came_to t).base_used ≡ length (recorded came.end.base)
 
   -- An answer comes only to a job without a fault. It has the verdict and the counts of the very sittings that the settings ask for, on the job's lists and book. They are a run of
   -- calls, and the law of runs holds of it: so there is no plan where the verdict is "none", and the channels are a plan where it is one. A plan has one channel for each group.
@@ -147,9 +160,10 @@ Unanswered bs settings (Refused r) = Unstored bs (Refused r) ⊎ (((i : ℕ) × 
 Unanswered bs settings NoMemory = Unit {0}
 
 -- A job with a fault is refused for the first, and one without is answered, unless memory is wanting.
-pub record RefusedAsLoaded (bs : List ℕ) (r : Result Answer PlanError) : Type 0 where
-  pub faulty : (f : LoadFault) → Faulty bs places f → (r ≡ Err NoMemory) ⊎ ((e : Refusal) × (r ≡ Err (Refused e)) × (told e ≡ (numbered f.fault, f.offset)))
-  pub faultless : (i : ℕ) → Accepts bs places i → (r ≡ Err NoMemory) ⊎ ((a : Answer) × (r ≡ Ok a))
+module _ {A : Type 0} where
+  pub record RefusedAsLoaded (bs : List ℕ) (r : Result A PlanError) : Type 0 where
+    pub faulty : (f : LoadFault) → Faulty bs places f → (r ≡ Err NoMemory) ⊎ ((e : Refusal) × (r ≡ Err (Refused e)) × (told e ≡ (numbered f.fault, f.offset)))
+    pub faultless : (i : ℕ) → Accepts bs places i → (r ≡ Err NoMemory) ⊎ ((a : A) × (r ≡ Ok a))
 
 -- What the program searches with: last conflict of one group over fewest first, holding nothing, and geometric cutoffs from 10 on.
 abbrev pub program : Settings

@@ -1,3 +1,4 @@
 pub mod Answers
 pub mod Sittings
 pub mod Stores
+pub mod Reports

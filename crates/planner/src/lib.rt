@@ -5,5 +5,6 @@ pub mod answer;
 pub mod decided;
 pub mod error;
 pub mod memory;
+pub mod report;
 pub mod solve;
 pub mod store;

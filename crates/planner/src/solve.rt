@@ -2,7 +2,7 @@
 ghost use Rattle.std.specs.Prelude.{◌≡◌, ◌<◌, ◌≤◌, length, IfOk, IsOk, Err, MatchResult};
 ghost use Rattle.rules.specs.declared.refusal.Refusal.TheVariants.{NoPlace};
 ghost use Rattle.planner.specs.declared.error.PlanError.TheVariants.{Refused};
-ghost use Rattle.planner.specs.Answers.{Kept, Accepted, Ready, SatOn, Answered, Unanswered, RefusedAsLoaded, AnsweredByProgram};
+ghost use Rattle.planner.specs.Answers.{Kept, Accepted, Ready, SatOn, Searched, Answered, Unanswered, RefusedAsLoaded, AnsweredByProgram};
 ghost use Rattle.planner.specs.Stores.{Unstored};
 
 use crate::answer::Answer;
@@ -58,7 +58,26 @@ pub fn sit_on<B: RuleBook, O: Order, P: RestartPolicy>(
     Ok(Sat::Open(search))
 }
 
-// Loads the job and searches for a plan of it.
+// Loads the job and searches for a plan of it. Hands out the regions as the last sitting left them.
+pub fn searched<O: Order, P: RestartPolicy>(
+    heap: Global,
+    job: &[u8],
+    order: &mut O,
+    policy: &mut P,
+    settings: Settings,
+) -> Result<(Memory, Sat), PlanError>
+    ensures { MatchResult result (λ x. Searched O.meaning P.meaning job.now settings (O.held order.old) (O.held order.new) (P.held policy.old) (P.held policy.new) x.0 x.1) (Unanswered job.now settings) }
+{
+    let store = Store::load(heap, job)?;
+    let mut memory = Memory::new(heap, &store, settings.base_words)?;
+    let lists = store.lists.as_slice();
+    let book = book(job, store.loaded(), &store.gaps, &store.tables);
+    let search = open(lists, &book)?;
+    let sat = sit_on(search, lists, &book, order, policy, settings, &mut memory)?;
+    Ok((memory, sat))
+}
+
+// The answer to a job.
 pub fn solve<O: Order, P: RestartPolicy>(
     heap: Global,
     job: &[u8],
@@ -69,12 +88,7 @@ pub fn solve<O: Order, P: RestartPolicy>(
     ensures answers { MatchResult result (Answered O.meaning P.meaning job.now settings (O.held order.old) (O.held order.new) (P.held policy.old) (P.held policy.new)) (Unanswered job.now settings) }
     ensures refused { Accepted settings → RefusedAsLoaded job.now result }
 {
-    let store = Store::load(heap, job)?;
-    let mut memory = Memory::new(heap, &store, settings.base_words)?;
-    let lists = store.lists.as_slice();
-    let book = book(job, store.loaded(), &store.gaps, &store.tables);
-    let search = open(lists, &book)?;
-    let sat = sit_on(search, lists, &book, order, policy, settings, &mut memory)?;
+    let (memory, sat) = searched(heap, job, order, policy, settings)?;
     Ok(memory.answer(sat))
 }
 

@@ -25,7 +25,6 @@ use Rattle.laws.proofs.Refusals.{sitting_stands}
 use Rattle.laws.proofs.Runs.{sitting_continues}
 use Rattle.laws.proofs.Sittings.{Onward, onward_more}
 use Rattle.search.specs.declared.held.Progress.{Progress}
-use Rattle.search.specs.declared.held.Counts.{Counts}
 use Rattle.search.specs.declared.held.OpenSearch.{OpenSearch}
 use Rattle.search.specs.declared.held.SettledSearch.{SettledSearch}
 use Rattle.search.proofs.Turning.{length_branch_of}
@@ -208,6 +207,7 @@ module _ {O P H Q : Type 0} (om : OrderMeaning H) (law : LawfulMeaning om) (pm :
         sits = all;
         state = same;
         words = fit.words ∙ ap (λ (x : State). recorded x.base) same;
+        used = sym (length-take-le _ _ fit.base_in) ∙ ap length (fit.words ∙ ap (λ (x : State). recorded x.base) same);
         order = so ∙ a.order;
         policy = sp ∙ a.policy;
         remain = remain;
@@ -220,14 +220,13 @@ module _ {O P H Q : Type 0} (om : OrderMeaning H) (law : LawfulMeaning om) (pm :
 
 -- A search that came to an end tells the counts of its state.
 module _ {O P H Q : Type 0} (om : OrderMeaning H) (pm : PolicyMeaning Q) (oh : O → H) (ph : P → Q) (book : Meaning) (s : OpenSearch) (lists : List ℕ) (allowance : ℕ) (found left : Lent O P) where
-  pub settles : (v : Verdict) (d : SettledSearch) (p : Progress) → d.counts ≡ p.counts → ComesTo om pm oh ph book s lists allowance found left v p → Settles om pm oh ph book s lists allowance found left v d
-  settles v d p e r = (
-    p,
+  pub settles : (v : Verdict) (d : SettledSearch) → ComesTo om pm oh ph book s lists allowance found left v d.at → Settles om pm oh ph book s lists allowance found left v d
+  settles v d r = (
     r,
     record {
-      moves = ap (λ (n : Counts). n.moves) e ∙ ap (λ (x : State). x.moves) r.state;
-      closings = ap (λ (n : Counts). n.closings) e ∙ ap (λ (x : State). x.closings) r.state;
-      restarts = ap (λ (n : Counts). n.restarts) e ∙ ap (λ (x : State). x.restarts) r.state;
+      moves = ap (λ (x : State). x.moves) r.state;
+      closings = ap (λ (x : State). x.closings) r.state;
+      restarts = ap (λ (x : State). x.restarts) r.state;
     },
   )
 

@@ -68,6 +68,7 @@ module _ {O P H Q : Type 0} (om : OrderMeaning H) (pm : PolicyMeaning Q) (order_
         (begun (state_of s.at found.branch found.base)) v end
     pub state : state_of p left.branch left.base ≡ end.state
     pub words : take p.base_used left.base ≡ recorded end.state.base
+    pub used : p.base_used ≡ length (recorded end.state.base)
     -- the order and the policy hold what the moves made of their holdings
     pub order : order_holds left.order ≡ held_after om (order_holds found.order) end.events
     pub policy : policy_holds left.policy ≡ moved_on pm (policy_holds found.policy) end.restarts
@@ -79,9 +80,9 @@ module _ {O P H Q : Type 0} (om : OrderMeaning H) (pm : PolicyMeaning Q) (order_
     -- every run that came to what was passed goes on to what is left, and the law of runs holds of it
     pub continues : Continues lists book (state_of s.at found.branch found.base) v end.state
 
-  -- A settled search tells the counts.
+  -- A settled search stands at the numbers that it came to, and tells the counts.
   abbrev pub Settles : Verdict → SettledSearch → Type 0
-  Settles v d = (p : Progress) × (r : ComesTo v p) × Tells d.counts r.end.state
+  Settles v d = (r : ComesTo v d.at) × Tells d.at.counts r.end.state
 
   -- The plan stands in the first bytes of its region.
   abbrev pub Planned : SettledSearch → Type 0

@@ -66,13 +66,13 @@ pub fn sitting<B: RuleBook, O: Order, P: RestartPolicy>(
         match turn(
             last, lists, book, order, policy, left, &mut at, &mut links, regions,
         ) {
-            Step::None => return Ok(Sat::None(SettledSearch { counts: at.counts })),
+            Step::None => return Ok(Sat::None(SettledSearch { at })),
             Step::Plan => {
                 let domains = &mut *regions.domains;
                 let plan = &mut *regions.plan;
                 let (remain, _) = domains.split_at(lists.len());
                 write_plan(remain, plan);
-                return Ok(Sat::Plan(SettledSearch { counts: at.counts }));
+                return Ok(Sat::Plan(SettledSearch { at }));
             }
             Step::Spent => return Ok(Sat::Open(OpenSearch { groups, at })),
             Step::Made(made) => {

@@ -34,7 +34,7 @@ pub struct OpenSearch {
 // A search that came to a plan or to "none".
 #[derive(Drop)]
 pub struct SettledSearch {
-    pub(crate) counts: Counts,
+    pub(crate) at: Progress,
 }
 
 // How a sitting ends.
@@ -45,15 +45,35 @@ pub enum Sat {
 }
 
 impl Sat {
-    ghost use Rattle.search.specs.Ends.{counted};
+    ghost use Rattle.search.specs.Ends.{counted, came_to};
 
     // What was made on the search up to this end.
     pub fn counts(&self) -> Counts
         ensures { result ≡ counted self.now }
     {
         match self {
-            Sat::Plan(settled) | Sat::None(settled) => settled.counts,
+            Sat::Plan(settled) | Sat::None(settled) => settled.at.counts,
             Sat::Open(search) => search.at.counts,
+        }
+    }
+
+    // How many words of the branch were used at this end.
+    pub fn branch_len(&self) -> u32
+        ensures { result ≡ (came_to self.now).branch_len }
+    {
+        match self {
+            Sat::Plan(settled) | Sat::None(settled) => settled.at.branch_len,
+            Sat::Open(search) => search.at.branch_len,
+        }
+    }
+
+    // How many words of the base were used at this end.
+    pub fn base_used(&self) -> u32
+        ensures { result ≡ (came_to self.now).base_used }
+    {
+        match self {
+            Sat::Plan(settled) | Sat::None(settled) => settled.at.base_used,
+            Sat::Open(search) => search.at.base_used,
         }
     }
 }
@@ -78,8 +98,8 @@ impl OpenSearch {
 impl SettledSearch {
     // What was made on the search.
     pub fn counts(&self) -> Counts
-        ensures { result ≡ self.now.counts }
+        ensures { result ≡ self.now.at.counts }
     {
-        self.counts
+        self.at.counts
     }
 }

@@ -4,8 +4,8 @@
 pub mod calls;
 pub mod held;
 mod moves;
-mod recording;
+pub mod recording;
 pub mod regions;
 mod turns;
 mod vetting;
-mod words;
+pub mod words;

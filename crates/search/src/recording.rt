@@ -37,7 +37,7 @@ fn write_nogood(rest: &mut [u32], branch: &[u32], refused: u32) -> usize
 }
 
 // Writes the reduced nogoods of the branch into the base after its used words, in branch order. Answers the words then used.
-pub(crate) fn record_nogoods(base: &mut [u32], used: usize, branch: &[u32]) -> usize
+pub fn record_nogoods(base: &mut [u32], used: usize, branch: &[u32]) -> usize
     requires few { length branch.now ≤ 12800 }
     requires room { used + length (recorded (reduced (branch_of branch.now (length branch.now)))) ≤ length base.old }
     ensures used { result ≡ used + length (recorded (reduced (branch_of branch.now (length branch.now)))) }

@@ -1,5 +1,5 @@
 // What the words of a branch say: its last decision taken, and the space that its nogoods want.
-ghost use Rattle.std.specs.Prelude.{◌≡◌, ◌+◌, ◌≤◌, [], length, nat_le, nat_lt, MatchOption};
+ghost use Rattle.std.specs.Prelude.{◌≡◌, ◌+◌, ◌*◌, ◌≤◌, [], length, nat_le, nat_lt, MatchOption};
 ghost use Rattle.model.specs.Decisions.{takens, reduced};
 ghost use Rattle.model.specs.Words.{branch_of, recorded};
 ghost use Rattle.search.specs.Branches.{LastTaken};
@@ -22,9 +22,10 @@ pub(crate) fn last_taken(branch: &[u32]) -> Option<usize>
 }
 
 // How many words the reduced nogoods of the branch take in the base.
-fn words_needed(branch: &[u32]) -> usize
+pub fn words_needed(branch: &[u32]) -> usize
     requires few { length branch.now ≤ 12800 }
-    ensures { result ≡ length (recorded (reduced (branch_of branch.now (length branch.now)))) }
+    ensures words { result ≡ length (recorded (reduced (branch_of branch.now (length branch.now)))) }
+    ensures most { result ≤ 12802 * length branch.now }
 {
     let mut taken = 0usize;
     let mut words = 0usize;

@@ -93,7 +93,7 @@ returns-in-None-clause-answers g c =
     let found = lent_in c.args.regions.now c.args.order.now c.args.policy.now in
     let here = lent_in c.moves.regions c.moves.order c.moves.policy in
     let next = lent_in c.turn.new.regions c.turn.new.order c.turn.new.policy in (
-      settles g.O.Order.meaning g.P.RestartPolicy.meaning g.O.Order.held g.P.RestartPolicy.held (g.B.RuleBook.meaning c.args.book.now) c.args.search lists c.args.allowance found next none _ c.turn.new.at refl
+      settles g.O.Order.meaning g.P.RestartPolicy.meaning g.O.Order.held g.P.RestartPolicy.held (g.B.RuleBook.meaning c.args.book.now) c.args.search lists c.args.allowance found next none _
           (comes g.O.Order.meaning g.met.O.Order.lawful g.P.RestartPolicy.meaning g.met.P.RestartPolicy.lawful g.O.Order.held g.P.RestartPolicy.held (g.B.RuleBook.meaning c.args.book.now) (g.B.RuleBook.lawful c.args.book.now)
           c.args.search lists c.args.allowance found c.in_default.ensures c.moves.left c.moves.last c.moves.at c.turn.new.at here next none i
           t.0.state t.0.order t.0.policy (ends_none t.1.0 t.1.1 t.1.2 t.2) (inr t.1) e.fit e.beyond e.kept),
@@ -160,7 +160,7 @@ returns-in-Plan-clause-answers g c =
     let size = c.split_at.ensures.front_len in
     let one = single lists masks (take (length lists) xs) t.2 t.3 (λ k l. subst (λ (ms : List ℕ). get_or ms k 0 < 2 ^ 64) cut (w.fits k (omega (arith, size))))
     (λ k l. get_or-take (length lists) xs k 64 l ∙ w.written k (omega (arith, size)) ∙ ap (λ (ms : List ℕ). count_trailing_zeros 64 (get_or ms k 0)) cut) in (
-      settles g.O.Order.meaning g.P.RestartPolicy.meaning g.O.Order.held g.P.RestartPolicy.held (g.B.RuleBook.meaning c.args.book.now) c.args.search lists c.args.allowance found _ (plan (take (length lists) xs)) _ c.turn.new.at refl
+      settles g.O.Order.meaning g.P.RestartPolicy.meaning g.O.Order.held g.P.RestartPolicy.held (g.B.RuleBook.meaning c.args.book.now) c.args.search lists c.args.allowance found _ (plan (take (length lists) xs)) _
           (comes g.O.Order.meaning g.met.O.Order.lawful g.P.RestartPolicy.meaning g.met.P.RestartPolicy.lawful g.O.Order.held g.P.RestartPolicy.held (g.B.RuleBook.meaning c.args.book.now) (g.B.RuleBook.lawful c.args.book.now)
           c.args.search lists c.args.allowance found c.in_default.ensures c.moves.left c.moves.last c.moves.at c.turn.new.at here _ (plan (take (length lists) xs)) i
           t.0.state t.0.order t.0.policy (ends_plan masks t.1 (take (length lists) xs) (length-take-le (length lists) xs roomy) one) (inl t.1) e.fit e.beyond e.kept),

@@ -14,5 +14,5 @@ left_over n used size l = elim (cases_lt (size - used) n) [
 pub returns : goal.returns
 returns c =
     let p = c.args.at.now in
-    ap (λ k. leb k (length c.args.base.now - p.base_used)) (c.words_needed.ensures ∙ ap (λ ds. length (recorded (reduced ds))) (whole_branch c.args.branch.now p.branch_len c.requires.within))
+    ap (λ k. leb k (length c.args.base.now - p.base_used)) (c.words_needed.ensures.words ∙ ap (λ ds. length (recorded (reduced ds))) (whole_branch c.args.branch.now p.branch_len c.requires.within))
     ∙ left_over _ p.base_used (length c.args.base.now) c.requires.used
