@@ -33,6 +33,7 @@ enum Keyword {
     Other,
 }
 
+// The keyword that a word is.
 fn keyword_of(word: &str) -> Keyword
     ensures { result ≡ keyword_said word.now }
 {
