@@ -1,4 +1,6 @@
 // What the arguments of the program choose.
+ghost use Rattle.std.specs.Prelude.{◌≤◌, IfSome};
+
 use planner::solve::{PROGRAM, Settings};
 use std::{env, fmt, io};
 
@@ -27,7 +29,7 @@ pub struct Options {
 }
 
 // What is wrong with the arguments.
-#[derive(Clone, Copy, Debug, PartialEq, Eq)]
+#[derive(Clone, Copy)]
 pub enum Wrong {
     Option,
     Value,
@@ -55,7 +57,9 @@ impl fmt::Display for Wrong {
 }
 
 // The number that a value says, if it is in this range.
-fn number(value: &str, least: u32, most: u32) -> Option<u32> {
+fn number(value: &str, least: u32, most: u32) -> Option<u32>
+    ensures { IfSome result (λ n. (least ≤ n) × (n ≤ most)) }
+{
     match value.parse::<u32>() {
         Ok(n) if least <= n && n <= most => Some(n),
         _ => None,
