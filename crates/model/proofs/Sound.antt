@@ -11,7 +11,8 @@ use Rattle.rules.specs.Plans.{Complete, Breaks, Plan}
 use Rattle.model.specs.Choices.{holds, contains, shut}
 use Rattle.model.specs.Remains.{Family, Only, Obeys, Heeds, Meets, Dead, Single}
 use Rattle.model.specs.Moves.{State, start, nogoods, closing, Left, EndedNone, Move, close, restart, decide, called, Reach, here, more}
-use Rattle.model.proofs.Tests.{refuted, any_left, any_right, any_cases, any_one, one_any, all_left, all_right, all_one, all_both, All-all, none_left, none_right, seek, of_all}
+use Rattle.rules.proofs.Firsts.{seek}
+use Rattle.model.proofs.Tests.{refuted, any_left, any_right, any_cases, any_one, one_any, all_left, all_right, all_one, all_both, All-all, none_left, none_right, of_all}
 use Rattle.model.proofs.Shut.{restarting_same}
 use Rattle.model.proofs.Formed.{Whole, whole_run}
 

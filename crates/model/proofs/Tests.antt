@@ -61,17 +61,6 @@ module _ {A : Type 0} (p : A → Bool) where
   pub none_right : (xs ys : List A) → any p (xs ++ ys) ≡ false → any p ys ≡ false
   none_right xs ys e = refuted (any p ys) (λ h. both_ways (any p (xs ++ ys)) e (any_right xs ys h))
 
--- A number below n that passes the test, or that there is none.
-pub seek : (p : ℕ → Bool) (n : ℕ) → ((i : ℕ) × (i < n) × (p i ≡ true)) ⊎ ((i : ℕ) → i < n → p i ≡ false)
-seek p zero = inr (λ i h. absurd (not-suc-le-zero h))
-seek p (suc n) = go (cases_Bool (p n)) (seek p n)
-  where
-    go : (p n ≡ true) ⊎ (p n ≡ false) → ((i : ℕ) × (i < n) × (p i ≡ true)) ⊎ ((i : ℕ) → i < n → p i ≡ false)
-        → ((i : ℕ) × (i < suc n) × (p i ≡ true)) ⊎ ((i : ℕ) → i < suc n → p i ≡ false)
-    go (inl e) r = inl (n, omega arith, e)
-    go (inr e) (inl f) = inl (f.0, omega arith, f.2)
-    go (inr e) (inr f) = inr (λ i h. elim (cases_eq i n) [ inl q ↦ rw q e | inr q ↦ f i (omega arith) ])
-
 -- What holds of everything holds of each element.
 pub of_all : {A : Type 0} (P : A → Type 0) → ((x : A) → P x) → (xs : List A) → AllByRecursion P xs
 of_all P f [] = tt

@@ -14,7 +14,7 @@ use Rattle.propagation.specs.Supports.{Inside}
 use Rattle.propagation.specs.Bases.{Good}
 use Rattle.propagation.specs.Calms.{Agrees, Calm}
 use Rattle.propagation.specs.Filtered.{Lives}
-use Rattle.propagation.proofs.Digits.{has_dig, digs_le}
+use Rattle.rules.proofs.Digits.{has_dig, digs_le}
 use Rattle.propagation.proofs.Starting.{obeys_inside, branch_all, all_branch, taken_inside, taken_obeys, taken_within}
 use Rattle.propagation.proofs.Steps.{set_inside}
 use Rattle.propagation.proofs.Filtering.{listed, Carries}

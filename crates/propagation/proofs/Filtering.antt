@@ -1,5 +1,5 @@
 -- From what the work gives to what remains. Assumes nothing.
-use Rattle.std.proofs.Common.{◌≡◌, ℕ, ◌^◌, ◌<◌, Bool, true, false, List, length, get_or, subst, inl, inr, arith}
+use Rattle.std.proofs.Common.{◌≡◌, ℕ, ◌^◌, ◌<◌, Bool, true, false, List, length, get_or, refl, subst, inl, inr, arith}
 use Rattle.std.specs.Prelude.{Result, Ok, Err, OnOk, OnErr}
 use Rattle.std.proofs.lemmas.Bool.{both_ways, cases_lt}
 use Rattle.std.proofs.lemmas.List.{get_or_past}
@@ -13,20 +13,25 @@ use Rattle.model.proofs.Tests.{refuted}
 use Rattle.model.proofs.Largest.{filtered, filtered_remains}
 use Rattle.propagation.specs.declared.records.RuleEnd.{RuleEnd}
 use Rattle.propagation.specs.Waits.{waits, at_end}
-use Rattle.propagation.specs.Supports.{Inside, Supported}
+use Rattle.rules.specs.Supports.{near, far}
+use Rattle.propagation.specs.Supports.{Inside, Supported, Served}
 use Rattle.propagation.specs.Settling.{Emptied}
 use Rattle.propagation.specs.Calms.{Agrees, Calm}
 use Rattle.propagation.specs.Filtered.{Lives, Doomed, Dies}
-use Rattle.propagation.proofs.Digits.{has_none, has_below}
+use Rattle.rules.proofs.Digits.{has_none, has_below}
 use Rattle.propagation.proofs.Starting.{branch_all, all_branch}
-use Rattle.propagation.proofs.Revising.{none_supported}
+use Rattle.propagation.proofs.Revising.{near_apart}
+use Rattle.propagation.proofs.Steps.{ends_apart}
 
--- with all ends in line nothing is claimed
-pub calm_all : (m : Meaning) → Lawful m → (ms : List ℕ) (q : List RuleEnd) → ((i : ℕ) (s : Bool) → i < m.count → waits q (at_end i s) ≡ true) → Calm m ms q
-calm_all m law ms q h i s n = elim (cases_lt i m.count) [
-  | inl l ↦ absurd (both_ways (waits q (at_end i s)) n (h i s l))
-  | inr l ↦ none_supported m (family ms) i s (law.past i l)
-]
+-- with the ends in line that have not what they need nothing is claimed
+pub calm_served : (m : Meaning) → Lawful m → (ms : List ℕ) (q : List RuleEnd) → length ms ≡ m.groups → ((g c : ℕ) → family ms g c ≡ true → c < 64)
+    → ((g i : ℕ) → g < length ms → Served m g (get_or ms g 0) i q) → Calm m ms q
+calm_served m law ms q size narrow served i s n e h a p =
+    let l = near_apart m.groups s e (ends_apart m law i e h) in
+    elim (served (far s e) i (omega (arith, l.1, size)) s e h refl) [
+      | inl w ↦ absurd (both_ways (waits q (at_end i s)) n w)
+      | inr b ↦ b a (narrow (near s e) a p)
+    ]
 
 -- a family that meets the conditions supports all ends and heeds all nogoods
 pub agrees_of : (lists : List ℕ) (m : Meaning) (base : List (List ℕ)) (branch : List Decision) (k : Family) → Meets lists m base branch k → Agrees m base k

@@ -1,9 +1,9 @@
 -- The line of assignments just settled. Assumes nothing.
 use Rattle.std.proofs.Common.{◌≡◌, ℕ, suc, ◌+◌, ◌*◌, ◌<◌, ◌≤◌, Bool, true, false, ◌||◌, eqb, ◌⊎◌, List, [], ◌∷◌, ◌++◌, length, sym, refl, ap, ◌∙◌, inl, inr, arith}
-use Rattle.std.proofs.lemmas.Bool.{eqb-true, eq-eqb, ne_eqb, cases_eq, or_cases, or_left, or_right, or_parts, or_from}
+use Rattle.std.proofs.lemmas.Bool.{eqb-true, eq-eqb, ne_eqb, cases_eq, or_cases, or_left, or_right, or_parts, or_from, false≢true}
 use Rattle.std.proofs.lemmas.List.{length_push}
 use Rattle.propagation.specs.declared.records.Assignment.{Assignment}
-use Rattle.propagation.specs.Settling.{noted, stands, Alone}
+use Rattle.propagation.specs.Settling.{noted, stands, Alone, Settled}
 use Rattle.propagation.proofs.Marks.{tally, tally_most, tally_more, tally_none}
 
 shift : (x y z : Bool) → (x || (y || z)) ≡ ((x || y) || z)
@@ -50,3 +50,7 @@ stands_room s n f o b h l =
       | inr k ↦ let p = eqb-true g f.group k in omega arith
     ]) in
     omega (arith, length_push s f, r)
+
+-- where nothing waits
+pub settled_none : (ms : List ℕ) → Settled ms []
+settled_none ms = record { alone = tt; below = λ g h. absurd (false≢true h); narrow = λ g h. absurd (false≢true h) }

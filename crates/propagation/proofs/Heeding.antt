@@ -10,7 +10,7 @@ use Rattle.model.specs.Masks.{grp}
 use Rattle.model.specs.Remains.{Family, family, Only, Gone, Heeds}
 use Rattle.propagation.specs.Supports.{Inside}
 use Rattle.propagation.specs.Bases.{Forced}
-use Rattle.propagation.proofs.Digits.{Cut, has_none, has_some, cut_stays, cut_inside, cut_other}
+use Rattle.rules.proofs.Digits.{Cut, has_none, has_some, cut_stays, cut_inside, cut_other}
 
 -- a set without the channel is empty where the channel is the only one
 pub only_if : (ms : List ℕ) (v r : ℕ) → Cut (get_or ms (v / 64) 0) (v % 64) r → r ≡ 0 → Only (family ms) v

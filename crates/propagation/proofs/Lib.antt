@@ -1,5 +1,4 @@
 pub mod Lines
-pub mod Digits
 pub mod Marks
 pub mod Groups
 pub mod Steps
@@ -14,4 +13,3 @@ pub mod Deciding
 pub mod Chaining
 pub mod Wiring
 pub mod Indexing
-pub mod Taking

@@ -5,7 +5,7 @@ use Rattle.std.proofs.lemmas.List.{get_or-set_same, get_or-set_other, length_pus
 use Rattle.rules.specs.Channels.{has}
 use Rattle.propagation.specs.Waits.{one_if, at_end, place, waits, marked, Once, Line}
 use Rattle.propagation.specs.declared.records.RuleEnd.{RuleEnd}
-use Rattle.propagation.proofs.Digits.{minus_has, plus_has}
+use Rattle.rules.proofs.Digits.{minus_has, plus_has}
 
 eqb_rest : (j e : ℕ) → j / 32 ≡ e / 32 → eqb (j % 32) (e % 32) ≡ eqb j e
 eqb_rest j e h = go (cases_eq j e)

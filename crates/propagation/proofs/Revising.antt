@@ -5,7 +5,8 @@ use Rattle.std.proofs.lemmas.List.{length-set, get_or-set_same}
 use Rattle.rules.specs.Meanings.{Meaning, Apart}
 use Rattle.rules.specs.Channels.{has}
 use Rattle.model.specs.Remains.{Family, family}
-use Rattle.propagation.specs.Supports.{Supported, Inside, near, far, allows, Kept}
+use Rattle.rules.specs.Supports.{near, far, allows, Kept}
+use Rattle.propagation.specs.Supports.{Supported, Inside}
 use Rattle.propagation.proofs.Steps.{at_same, at_other}
 
 pub same_some : (o : Option (ℕ × ℕ)) (x y : ℕ × ℕ) → o ≡ Some x → o ≡ Some y → x ≡ y

@@ -9,7 +9,7 @@ use Rattle.model.specs.Words.{decision, branch_of}
 use Rattle.model.specs.Remains.{Family, family, Only, Obeys}
 use Rattle.model.proofs.Tests.{refuted}
 use Rattle.propagation.specs.Supports.{Inside}
-use Rattle.propagation.proofs.Digits.{has_none, plus_has}
+use Rattle.rules.proofs.Digits.{has_none, plus_has}
 use Rattle.propagation.proofs.Steps.{at_same, at_other}
 
 -- the set of one channel

@@ -12,16 +12,21 @@ use Rattle.propagation.specs.declared.records.RuleEnd.{RuleEnd}
 use Rattle.propagation.specs.declared.records.Assignment.{Assignment}
 use Rattle.propagation.specs.Waits.{waits, at_end}
 use Rattle.propagation.specs.Waiting.{queued}
-use Rattle.propagation.specs.Supports.{Supported, Inside, Still, Across, near, far}
+use Rattle.rules.specs.Supports.{near, far}
+use Rattle.propagation.specs.Supports.{Supported, Inside, Still, Served}
 use Rattle.propagation.specs.Settling.{assignment, noted, stands, Narrow, Settled, Noting}
 use Rattle.propagation.specs.declared.desk.Desk.{Desk}
 use Rattle.propagation.specs.Desks.{SameDesk, Step}
-use Rattle.propagation.proofs.Digits.{has_more}
+use Rattle.rules.proofs.Digits.{has_more}
 use Rattle.propagation.proofs.Groups.{stands_push, noted_push, alone_push}
 
 -- the groups of a rule that binds differ
 pub ends_apart : (m : Meaning) → Lawful m → (i : ℕ) (e : ℕ × ℕ) → m.ends i ≡ Some e → Apart m.groups e
 ends_apart m law i e h = subst (λ o. IfSome o (Apart m.groups)) h (law.apart i)
+
+-- what waits goes on waiting
+pub served_still : (m : Meaning) (g k i : ℕ) (q q' : List RuleEnd) → Still q q' → Served m g k i q → Served m g k i q'
+served_still m g k i q q' still t s e h f = elim (t s e h f) [ inl w ↦ inl (still (at_end i s) w) | inr b ↦ inr b ]
 
 module _ (ms : List ℕ) (g k : ℕ) (here : g < length ms) where
   -- the group, and every other
@@ -40,12 +45,6 @@ module _ (ms : List ℕ) (g k : ℕ) (here : g < length ms) where
             let e' : family (set ms g k) g c ≡ true = subst (λ (x : ℕ). family (set ms g k) x c ≡ true) q e in
             subst (λ (x : ℕ). family ms x c ≡ true) (sym q) (sub c (sym (at_same c) ∙ e'))
         go (inr n) = sym (at_other h c n) ∙ e
-
-    -- an end whose group across is another stays supported
-    pub set_supported : (m : Meaning) (i : ℕ) (s : Bool) → ((e : ℕ × ℕ) → m.ends i ≡ Some e → far s e ≡ g → ⊥) → Supported m (family ms) i s → Supported m (family (set ms g k)) i s
-    set_supported m i s n sup e h a p =
-        let t = sup e h a (set_inside (near s e) a p) in
-        (t.0, at_other (far s e) t.0 (n e h) ∙ t.1, t.2)
 
     module _ (fits : get_or ms g 0 < 2 ^ 64) (less : k < get_or ms g 0) (some : (c : ℕ) × (has k c ≡ true)) where
       -- the group kept two channels before, so it does not wait as settled
@@ -96,11 +95,23 @@ module _ (ms : List ℕ) (g k : ℕ) (here : g < length ms) where
           let p = or_parts (noted s v) (eqb v (64 * g + c)) (sym (noted_push s (assignment g c) v) ∙ subst (λ (x : List Assignment). noted x v ≡ false) e n) in
           (p.0, only_back v (λ q o. let z = at_group v q o c sole.0 in eqb-false v (64 * g + c) p.1 (omega arith)))
 
-      pub shrink_ends : (m : Meaning) (q q' : List RuleEnd) → Still q q' → ((i : ℕ) → Across m g i q')
+      -- an end that has the group across is supported by what the group keeps, if it does not wait
+      served_supported : (m : Meaning) (q' : List RuleEnd) → ((h c : ℕ) → family ms h c ≡ true → c < 64) → ((i : ℕ) → Served m g k i q')
+          → (i : ℕ) (s : Bool) → waits q' (at_end i s) ≡ false → Supported m (family ms) i s → Supported m (family (set ms g k)) i s
+      served_supported m q' narrow served i s n sup e h a p = elim (cases_eq (far s e) g) [
+        | inl q ↦ elim (served i s e h q) [
+          | inl w ↦ absurd (both_ways (waits q' (at_end i s)) n w)
+          | inr b ↦ (let t = b a (narrow (near s e) a (set_inside (near s e) a p)) in
+              (t.0, subst (λ (x : ℕ). family (set ms g k) x t.0 ≡ true) (sym q) (at_same t.0 ∙ t.1), t.2))
+        ]
+        | inr d ↦ (let t = sup e h a (set_inside (near s e) a p) in (t.0, at_other (far s e) t.0 d ∙ t.1, t.2))
+      ]
+
+      pub shrink_ends : (m : Meaning) (q q' : List RuleEnd) → Still q q' → ((h c : ℕ) → family ms h c ≡ true → c < 64) → ((i : ℕ) → Served m g k i q')
           → (i : ℕ) (s : Bool) → waits q' (at_end i s) ≡ false → (waits q (at_end i s) ≡ false) × (Supported m (family ms) i s → Supported m (family (set ms g k)) i s)
-      shrink_ends m q q' still across i s n = (
+      shrink_ends m q q' still narrow served i s n = (
         refuted (waits q (at_end i s)) (λ h. both_ways (waits q' (at_end i s)) n (still (at_end i s) h)),
-        set_supported m i s (λ e h f. both_ways (waits q' (at_end i s)) n (across i s e h f)),
+        served_supported m q' narrow served i s n,
       )
 
       pub shrink_falls : sum (set ms g k) < sum ms
@@ -140,6 +151,7 @@ pub same_then : {B : Type 0} (d e f : Desk B) → SameDesk d e → SameDesk e f 
 same_then d e f s t = record {
   book = t.book ∙ s.book;
   wires = t.wires ∙ s.wires;
+  spreads = t.spreads ∙ s.spreads;
   base = t.base ∙ s.base;
   index = t.index ∙ s.index;
   domains = t.domains ∙ s.domains;

@@ -4,7 +4,7 @@ use Rattle.std.proofs.lemmas.Bool.{cases_eq, cases_lt, eq-eqb, ne_eqb}
 use Rattle.std.proofs.lemmas.List.{get_or-set_same, get_or-set_other, length-set}
 use Rattle.rules.specs.Meanings.{Meaning, Lawful}
 use Rattle.propagation.specs.Waits.{one_if, at_end}
-use Rattle.propagation.specs.Supports.{far}
+use Rattle.rules.specs.Supports.{far}
 use Rattle.propagation.specs.Chains.{link, Below}
 use Rattle.propagation.specs.Wires.{Facing, Chained, Wired}
 use Rattle.propagation.proofs.Chaining.{chains_same, chains_none, chains_skip, chains_more}

@@ -1,5 +1,5 @@
 -- What lies on the desk while channels are taken away.
-use Rattle.std.specs.Prelude.{◌≡◌, ℕ, ◌<◌, ◌≤◌, Bool, false, ◌⊎◌, [], length, sum}
+use Rattle.std.specs.Prelude.{◌≡◌, ℕ, ◌<◌, ◌≤◌, Bool, true, false, ◌⊎◌, List, [], length, sum}
 use Rattle.std.specs.List.{AllByRecursion}
 use Rattle.rules.specs.Meanings.{Meaning}
 use Rattle.model.specs.Remains.{family, Only, Alive}
@@ -10,6 +10,7 @@ use Rattle.propagation.specs.Waits.{waits, at_end}
 use Rattle.propagation.specs.Lines.{SameLine}
 use Rattle.propagation.specs.Supports.{Supported, Inside}
 use Rattle.propagation.specs.Wires.{Wired}
+use Rattle.propagation.specs.Spreads.{Spreads}
 use Rattle.propagation.specs.Settling.{noted, Settled}
 use Rattle.propagation.specs.Bases.{Grouped}
 use Rattle.propagation.specs.Indexed.{Knows}
@@ -18,6 +19,7 @@ use Rattle.propagation.specs.Indexed.{Knows}
 pub record SameDesk {B : Type 0} (d d' : Desk B) : Type 0 where
   pub book : d'.book ≡ d.book
   pub wires : d'.wires ≡ d.wires
+  pub spreads : d'.spreads ≡ d.spreads
   pub base : d'.base ≡ d.base
   pub index : d'.index ≡ d.index
   pub domains : d'.domains.ghost_name ≡ d.domains.ghost_name
@@ -29,6 +31,7 @@ pub record SameDesk {B : Type 0} (d d' : Desk B) : Type 0 where
 -- The desk fits its book.
 pub record Fitted {B : Type 0} (m : Meaning) (d : Desk B) : Type 0 where
   pub wired : Wired m d.wires.now
+  pub spread : Spreads m d.spreads.now
   pub groups : length d.domains.now ≡ m.groups
   pub rules : d.line.rules ≡ m.count
   pub room : length d.domains.now ≤ size d.settled
@@ -38,11 +41,16 @@ pub record Based {B : Type 0} (m : Meaning) (d : Desk B) : Type 0 where
   pub grouped : AllByRecursion (Grouped m.groups) (base_of d.base.now)
   pub known : Knows d.base.now d.index.now
 
+-- No group keeps a channel above 63.
+abbrev pub Small : List ℕ → Type 0
+Small masks = (g c : ℕ) → family masks g c ≡ true → c < 64
+
 -- The desk is in order.
 pub record Held {B : Type 0} (m : Meaning) (d : Desk B) : Type 0 where
   pub fits : Fitted m d
   pub settled : Settled d.domains.now (queued d.settled)
   pub alive : Alive d.domains.now (family d.domains.now)
+  pub small : Small d.domains.now
 
 -- Channels were taken away, and what that calls for was put in line: an end that does not wait waited not before and is supported if it was,
 -- and an assignment that does not wait waited not before and is not newly the last of its group.

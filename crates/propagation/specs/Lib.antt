@@ -6,10 +6,10 @@ pub mod Settling
 pub mod Supports
 pub mod Chains
 pub mod Wires
+pub mod Spreads
 pub mod Desks
 pub mod Bases
 pub mod Indexed
 pub mod Links
 pub mod Calms
 pub mod Filtered
-pub mod Takings

@@ -2,7 +2,7 @@
 use Rattle.std.specs.Prelude.{◌≡◌, ℕ, ◌+◌, ◌≤◌, Bool, List, length, Option, Some}
 use Rattle.rules.specs.Meanings.{Meaning}
 use Rattle.propagation.specs.Waits.{at_end}
-use Rattle.propagation.specs.Supports.{far}
+use Rattle.rules.specs.Supports.{far}
 use Rattle.propagation.specs.Chains.{link, Chains, Below}
 
 -- The end numbered n has group g across.

@@ -7,7 +7,7 @@ ghost use Rattle.model.specs.Words.{base_of, branch_of};
 ghost use Rattle.model.specs.Remains.{Family, family, Alive};
 ghost use Rattle.propagation.specs.Supports.{Inside};
 ghost use Rattle.propagation.specs.Settling.{Emptied};
-ghost use Rattle.propagation.specs.Desks.{SameDesk, Laid};
+ghost use Rattle.propagation.specs.Desks.{SameDesk, Small, Laid};
 ghost use Rattle.propagation.specs.Bases.{Grouped};
 ghost use Rattle.propagation.specs.Links.{Linked};
 ghost use Rattle.propagation.specs.Calms.{Agrees};
@@ -26,6 +26,7 @@ impl<'d, B: RuleBook> Desk<'d, B> {
     pub fn resume(&mut self, g: u16, keeps: u64) -> Result<(), Dead>
         requires laid { Laid (B.meaning self.old.book.now) self.old }
         requires alive { Alive self.old.domains.now (family self.old.domains.now) }
+        requires small { Small self.old.domains.now }
         requires agrees { Agrees (B.meaning self.old.book.now) (base_of self.old.base.now) (family self.old.domains.now) }
         requires group { g < length self.old.domains.now }
         requires inside { (j : ℕ) → has keeps j ≡ true → has (slice_index self.old.domains.now g) j ≡ true }
@@ -92,6 +93,7 @@ pub fn propagate_decision<B: RuleBook>(
     let mut desk = Desk::over(
         book,
         &links.wires,
+        &links.spreads,
         base,
         &links.index,
         &mut remain[0..n],

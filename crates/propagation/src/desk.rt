@@ -3,6 +3,7 @@ ghost use Rattle.std.specs.Prelude.{◌≡◌, ◌*◌, ◌≤◌, length};
 ghost use Rattle.std.specs.List.{AllByRecursion};
 ghost use Rattle.model.specs.Words.{base_of};
 ghost use Rattle.propagation.specs.Wires.{Wired};
+ghost use Rattle.propagation.specs.Spreads.{Spreads};
 ghost use Rattle.propagation.specs.Bases.{Grouped};
 ghost use Rattle.propagation.specs.Desks.{Laid};
 ghost use Rattle.propagation.specs.Indexed.{Knows};
@@ -20,6 +21,7 @@ use rules::book::RuleBook;
 pub struct Desk<'d, B: RuleBook> {
     pub book: &'d B,
     pub wires: &'d [Option<u16>],
+    pub spreads: &'d [u32],
     pub base: &'d [u32],
     pub index: &'d Index,
     pub domains: &'d mut [u64],
@@ -33,6 +35,7 @@ impl<'d, B: RuleBook> Desk<'d, B> {
     pub fn over(
         book: &'d B,
         wires: &'d [Option<u16>],
+        spreads: &'d [u32],
         base: &'d [u32],
         index: &'d Index,
         domains: &'d mut [u64],
@@ -41,6 +44,7 @@ impl<'d, B: RuleBook> Desk<'d, B> {
         settled: &'d mut [Assignment],
     ) -> Desk<'d, B>
         requires wired { Wired (B.meaning book.now) wires.now }
+        requires spread { Spreads (B.meaning book.now) spreads.now }
         requires groups { length domains.old ≡ (B.meaning book.now).groups }
         requires grouped { AllByRecursion (Grouped (B.meaning book.now).groups) (base_of base.now) }
         requires known { Knows base.now index.now }
@@ -59,6 +63,7 @@ impl<'d, B: RuleBook> Desk<'d, B> {
         Desk {
             book,
             wires,
+            spreads,
             base,
             index,
             domains,

@@ -7,7 +7,7 @@ ghost use Rattle.model.specs.Words.{decision, branch_of, base_of};
 ghost use Rattle.model.specs.Remains.{Family, family, Obeys, Alive};
 ghost use Rattle.propagation.specs.Supports.{Inside};
 ghost use Rattle.propagation.specs.Settling.{Emptied};
-ghost use Rattle.propagation.specs.Desks.{SameDesk, Laid};
+ghost use Rattle.propagation.specs.Desks.{SameDesk, Small, Laid};
 ghost use Rattle.propagation.specs.Bases.{Grouped};
 ghost use Rattle.propagation.specs.Links.{Linked};
 ghost use Rattle.propagation.specs.Calms.{Agrees};
@@ -43,6 +43,7 @@ impl<'d, B: RuleBook> Desk<'d, B> {
     pub fn run(&mut self) -> Result<(), Dead>
         requires laid { Laid (B.meaning self.old.book.now) self.old }
         requires alive { Alive self.old.domains.now (family self.old.domains.now) }
+        requires small { Small self.old.domains.now }
         ensures same { SameDesk self.old self.new }
         ensures within { (k : Family) → Agrees (B.meaning self.old.book.now) (base_of self.old.base.now) k → Inside k (family self.old.domains.now) → Inside k (family self.new.domains.now) }
         ensures dead { OnErr result (Emptied self.new.domains.now) }
@@ -50,7 +51,7 @@ impl<'d, B: RuleBook> Desk<'d, B> {
         ensures alive { OnOk result (Alive self.new.domains.now (family self.new.domains.now)) }
         ensures agrees { OnOk result (Agrees (B.meaning self.old.book.now) (base_of self.old.base.now) (family self.new.domains.now)) }
     {
-        self.line.add_all();
+        self.queue_narrow();
         self.heed_all()?;
         self.work()
     }
@@ -99,6 +100,7 @@ pub fn propagate<B: RuleBook>(
     let mut desk = Desk::over(
         book,
         &links.wires,
+        &links.spreads,
         base,
         &links.index,
         &mut remain[0..n],

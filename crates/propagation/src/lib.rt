@@ -3,7 +3,6 @@
 
 pub mod across;
 pub mod bench;
-pub mod bits;
 pub mod decision;
 pub mod desk;
 pub mod ends;
@@ -17,8 +16,8 @@ pub mod records;
 pub mod revise;
 pub mod ring;
 pub mod shrink;
+pub mod spreads;
 pub mod start;
-pub mod support;
 pub mod walk;
 pub mod wires;
 pub mod work;

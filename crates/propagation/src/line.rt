@@ -1,9 +1,8 @@
 // The line of rule ends that wait, with a mark for each.
-ghost use Rattle.std.specs.Prelude.{◌≡◌, ℕ, ◌*◌, ◌<◌, ◌≤◌, Bool, true, ◌||◌, [], ◌∷◌, length, MatchOption, ◌==◌};
+ghost use Rattle.std.specs.Prelude.{◌≡◌, ℕ, ◌*◌, ◌<◌, ◌≤◌, ◌||◌, [], ◌∷◌, length, MatchOption, ◌==◌};
 ghost use Rattle.std.proofs.Props.{props};
 ghost use Rattle.propagation.specs.Waiting.{queued, size};
-ghost use Rattle.propagation.specs.Waits.{place, at_end, waits, Line as Lined, Once-prop, Space};
-ghost use Rattle.propagation.specs.Supports.{Still};
+ghost use Rattle.propagation.specs.Waits.{place, waits, Line as Lined, Once-prop, Space};
 
 use super::ends::{draw, put};
 use super::records::RuleEnd;
@@ -55,31 +54,5 @@ impl<'r> Line<'r> {
         ensures first { MatchOption result ((queued self.old.ends ≡ []) × (queued self.new.ends ≡ [])) (λ e. (e.rule < self.old.rules) × (queued self.old.ends ≡ e ∷ queued self.new.ends)) }
     {
         draw(&mut self.ends, self.marks, self.rules)
-    }
-
-    // Both ends of a rule go in line.
-    pub fn add_both(&mut self, rule: u32)
-        requires counted { rule < self.old.rules }
-        ensures same { SameLine self.old self.new }
-        ensures still { Still (queued self.old.ends) (queued self.new.ends) }
-        ensures both { (s : Bool) → waits (queued self.new.ends) (at_end rule s) ≡ true }
-    {
-        // Two lines: a loop over the two flags would need an invariant over the place in their array.
-        self.add(RuleEnd {
-            rule,
-            second: false,
-        });
-        self.add(RuleEnd { rule, second: true });
-    }
-
-    // The ends of all rules.
-    pub fn add_all(&mut self)
-        ensures same { SameLine self.old self.new }
-        ensures all { (i : ℕ) (s : Bool) → i < self.old.rules → waits (queued self.new.ends) (at_end i s) ≡ true }
-    {
-        // Rules have numbers and no list to go over.
-        for rule in 0..self.rules {
-            self.add_both(rule);
-        }
     }
 }

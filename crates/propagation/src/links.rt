@@ -7,13 +7,15 @@ ghost use Rattle.propagation.specs.Indexed.{Knows};
 ghost use Rattle.propagation.specs.Links.{Linked};
 
 use super::index::Index;
+use super::spreads::spread;
 use super::wires::{CHAINS, wire};
 use rules::book::RuleBook;
 
-// The chains of a book's rule ends, and the index of a base.
+// The chains of a book's rule ends, what its groups need to be passed over, and the index of a base.
 #[derive(Drop)]
 pub struct Links {
     pub wires: [Option<u16>; CHAINS],
+    pub spreads: [u32; 200],
     pub index: Index,
 }
 
@@ -26,8 +28,11 @@ impl Links {
     {
         let mut wires = [None; CHAINS];
         wire(book, &mut wires);
+        let mut spreads = [0; 200];
+        spread(book, &mut spreads);
         Links {
             wires,
+            spreads,
             index: Index::new(),
         }
     }
@@ -41,6 +46,7 @@ impl Links {
         requires before { Knows (take from base.now) self.old.index }
         ensures known { Knows base.now self.new.index }
         ensures wires { self.new.wires ≡ self.old.wires }
+        ensures spreads { self.new.spreads ≡ self.old.spreads }
     {
         self.index.add(base, from);
     }

@@ -8,9 +8,9 @@ ghost use Rattle.propagation.specs.Desks.{SameDesk, Held, Step};
 ghost use Rattle.propagation.specs.Bases.{Grouped, Forced};
 
 use super::bench::Dead;
-use super::bits::without;
 use super::desk::Desk;
 use model::decision::{channel_of, group_of};
+use rules::bits::without;
 use rules::book::RuleBook;
 
 // Whether the group of the assignment keeps no channel but its own.

@@ -1,14 +1,14 @@
 // The group at an end of a rule keeps the channels that are backed from across.
 ghost use Rattle.std.specs.Prelude.{◌≡◌, OnOk, OnErr};
 ghost use Rattle.model.specs.Remains.{Family, family};
-ghost use Rattle.propagation.specs.Supports.{near, far, Supported, Inside};
+ghost use Rattle.rules.specs.Supports.{near, far};
+ghost use Rattle.propagation.specs.Supports.{Supported, Inside};
 ghost use Rattle.propagation.specs.Settling.{Emptied};
 ghost use Rattle.propagation.specs.Desks.{SameDesk, Held, Step};
 
 use super::bench::Dead;
 use super::desk::Desk;
 use super::records::RuleEnd;
-use super::support::kept_at;
 use rules::book::RuleBook;
 
 // The group at the end, and the one across. The flag says which end it is.
@@ -37,7 +37,7 @@ impl<'d, B: RuleBook> Desk<'d, B> {
         // The casts widen; of a `from` the proof would know less.
         let set = self.domains[near as usize];
         let across = self.domains[far as usize];
-        let keeps = kept_at(self.book, e, set, across);
+        let keeps = self.book.backed(e.rule, e.second, set, across);
         self.shrink(near, keeps)
     }
 }

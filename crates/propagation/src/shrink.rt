@@ -6,10 +6,10 @@ ghost use Rattle.propagation.specs.Settling.{Noting};
 ghost use Rattle.propagation.specs.Desks.{SameDesk, Held, Step};
 
 use super::bench::Dead;
-use super::bits::{lowest, without};
 use super::desk::Desk;
 use super::records::Assignment;
 use super::ring::Ring;
+use rules::bits::{lowest, without};
 use rules::book::RuleBook;
 
 // Where the channels that the group keeps are one, that assignment goes in line.
@@ -52,7 +52,7 @@ impl<'d, B: RuleBook> Desk<'d, B> {
         if keeps == 0 {
             return Err(Dead);
         }
-        self.queue_across(g);
+        self.queue_unless_wide(g);
         settle(g, keeps, &mut self.settled);
         Ok(())
     }

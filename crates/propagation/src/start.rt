@@ -8,8 +8,8 @@ ghost use Rattle.model.specs.Remains.{Family, family, Obeys, Alive};
 ghost use Rattle.propagation.specs.Supports.{Inside};
 ghost use Rattle.propagation.specs.Settling.{Emptied};
 
-use super::bits::without;
 use model::decision::{Decision, channel_of, group_of};
+use rules::bits::without;
 use rules::channels::has_channel;
 
 // The set with no channel but `c`.

@@ -1,8 +1,8 @@
 -- The lowest number that passes a test.
-use Rattle.std.proofs.Common.{◌≡◌, ℕ, zero, suc, ◌<◌, ◌≤◌, Bool, true, false, cond, List, length, get_or, Some, None, Option, sym, refl, ap, ◌∙◌, subst, ⊎_elim, arith, MatchOption}
+use Rattle.std.proofs.Common.{◌≡◌, ℕ, zero, suc, ◌<◌, ◌≤◌, Bool, true, false, ◌⊎◌, inl, inr, not-suc-le-zero, cond, List, length, get_or, Some, None, Option, sym, refl, ap, ◌∙◌, subst, ⊎_elim, arith, MatchOption}
 use Rattle.std.specs.List.{zip, AllWithin, HoldsAt}
 use Rattle.std.proofs.lemmas.Slice.Zip.{get_or-zip, length-zip}
-use Rattle.std.proofs.lemmas.Bool.{cond-true, cond-false, cond_both, cases_lt}
+use Rattle.std.proofs.lemmas.Bool.{cond-true, cond-false, cond_both, cases_lt, cases_Bool, cases_eq}
 use Rattle.std.specs.Option.{option_or}
 use Rattle.rules.specs.Checks.{lowest}
 
@@ -78,3 +78,14 @@ lowest_in_pairs p t xs ys r e d same h = go r h
           passes = sym (at i w) ∙ h.1 d;
           before = λ k l. sym (at k (omega arith)) ∙ h.2 k d (omega arith) l;
         })
+
+-- A number below n that passes the test, or that there is none.
+pub seek : (p : ℕ → Bool) (n : ℕ) → ((i : ℕ) × (i < n) × (p i ≡ true)) ⊎ ((i : ℕ) → i < n → p i ≡ false)
+seek p zero = inr (λ i h. absurd (not-suc-le-zero h))
+seek p (suc n) = go (cases_Bool (p n)) (seek p n)
+  where
+    go : (p n ≡ true) ⊎ (p n ≡ false) → ((i : ℕ) × (i < n) × (p i ≡ true)) ⊎ ((i : ℕ) → i < n → p i ≡ false)
+        → ((i : ℕ) × (i < suc n) × (p i ≡ true)) ⊎ ((i : ℕ) → i < suc n → p i ≡ false)
+    go (inl e) r = inl (n, omega arith, e)
+    go (inr e) (inl f) = inl (f.0, omega arith, f.2)
+    go (inr e) (inr f) = inr (λ i h. elim (cases_eq i n) [ inl q ↦ rw q e | inr q ↦ f i (omega arith) ])

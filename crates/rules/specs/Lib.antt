@@ -8,3 +8,5 @@ pub mod Tables
 pub mod Plans
 pub mod Checks
 pub mod Laws
+pub mod Takings
+pub mod Supports

@@ -1,6 +1,7 @@
 // Rule books: what a book stands for, three makes of them, and the check of a plan.
 #![tactic(auto)]
 
+pub mod bits;
 pub mod book;
 pub mod channels;
 pub mod check;

@@ -103,6 +103,7 @@ fn turn_alive<O: Order, P: RestartPolicy>(
     ensures kept { KeptWords (length domains.now) at.old.base_used at.new.base_used branch.old branch.new base.old base.new }
     ensures known { Knows (take at.new.base_used base.new) links.new.index }
     ensures wires { links.new.wires ≡ links.old.wires }
+    ensures spreads { links.new.spreads ≡ links.old.spreads }
 {
     if !some_wide(domains) {
         return Step::Plan;

@@ -18,7 +18,7 @@ use crate::regions::Regions;
 use crate::words::{has_space, is_taken};
 use model::base::Nogoods;
 use model::decision::{Decision, channel_of, group_of};
-use propagation::bits::without;
+use rules::bits::without;
 use rules::book::RuleBook;
 use rules::channels::has_channel;
 use rules::refusal::Refusal;

@@ -1,6 +1,6 @@
 use Rattle.std.proofs.Common.{◌≡◌, ℕ, ◌+◌, ◌/◌, ◌%◌, ◌^◌, ◌<◌, ◌||◌, eqb, get_or, set, sym, subst, arith}
 use Rattle.propagation.specs.Waits.{marked}
-use Rattle.propagation.proofs.Digits.{shifted, plus_fits, lacks_dig}
+use Rattle.rules.proofs.Digits.{shifted, plus_fits, lacks_dig}
 use Rattle.propagation.proofs.Marks.{mark_has}
 use Rattle.propagation.proofs.ends.mark.Goals as goal
 

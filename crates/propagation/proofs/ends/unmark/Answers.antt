@@ -1,6 +1,6 @@
 use Rattle.std.proofs.Common.{◌≡◌, ℕ, ◌-◌, ◌/◌, ◌%◌, ◌≤◌, not, ◌&&◌, eqb, get_or, set, sym, subst, arith}
 use Rattle.propagation.specs.Waits.{marked}
-use Rattle.propagation.proofs.Digits.{shifted, dig_ge, has_dig}
+use Rattle.rules.proofs.Digits.{shifted, dig_ge, has_dig}
 use Rattle.propagation.proofs.Marks.{unmark_has}
 use Rattle.propagation.proofs.ends.unmark.Goals as goal
 

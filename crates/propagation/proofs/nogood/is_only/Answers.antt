@@ -1,6 +1,6 @@
 use Rattle.std.proofs.Common.{◌/◌, ◌%◌, get_or, inl, inr, arith}
 use Rattle.std.proofs.lemmas.Bool.{cases_eq, eq-eqb, eqb-true}
-use Rattle.propagation.proofs.Digits.{Cut}
+use Rattle.rules.proofs.Digits.{Cut}
 use Rattle.propagation.proofs.Heeding.{only_if, if_only}
 use Rattle.propagation.proofs.nogood.is_only.Goals as goal
 

@@ -2,7 +2,7 @@ use Rattle.std.proofs.Common.{◌≡◌, ℕ, ◌^◌, ◌<◌, true, sym, refl,
 use Rattle.std.proofs.lemmas.Bool.{both_ways, cases_eq}
 use Rattle.rules.specs.Channels.{has}
 use Rattle.propagation.specs.Waiting.{queued}
-use Rattle.propagation.proofs.Digits.{has_some, cut_inside, cut_other, cut_stays, has_none}
+use Rattle.rules.proofs.Digits.{has_some, cut_inside, cut_other, cut_stays, has_none}
 use Rattle.propagation.proofs.shrink.settle.Goals as goal
 
 pub returns-then-without-eq0 : goal.returns-then-without-eq0

@@ -1,7 +1,7 @@
 use Rattle.std.proofs.Common.{◌≡◌, ℕ, true, eqb, sym, ap, ◌∙◌, subst}
 use Rattle.std.proofs.lemmas.Bool.{eqb-true, and_parts}
 use Rattle.rules.specs.Channels.{has}
-use Rattle.propagation.proofs.Digits.{shifted}
+use Rattle.rules.proofs.Digits.{shifted}
 use Rattle.propagation.proofs.Starting.{sole_has, and_given}
 use Rattle.propagation.proofs.start.alone.Goals as goal
 

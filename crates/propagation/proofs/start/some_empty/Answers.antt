@@ -1,7 +1,7 @@
 use Rattle.std.proofs.Common.{get_or, length, false, eqb, ◌≡◌, arith}
 use Rattle.std.specs.List.{AllWithin}
 use Rattle.std.proofs.lemmas.Bool.{both_ways, eq-eqb}
-use Rattle.propagation.proofs.Digits.{has_some}
+use Rattle.rules.proofs.Digits.{has_some}
 use Rattle.propagation.proofs.start.some_empty.Goals as goal
 
 pub returns-clause-alive : goal.returns-clause-alive

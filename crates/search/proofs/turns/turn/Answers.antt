@@ -3,6 +3,7 @@ use Rattle.std.proofs.lemmas.List.{length-take-le}
 use Rattle.branching.specs.Channels.{Open}
 use Rattle.model.specs.Words.{base_of, recorded}
 use Rattle.propagation.specs.Wires.{Wired}
+use Rattle.propagation.specs.Spreads.{Spreads}
 use Rattle.propagation.specs.Indexed.{Knows}
 use Rattle.search.specs.Turns.{state_of, AliveTurn, KeptWords}
 use Rattle.search.proofs.Turning.{dead_masks, live_masks, spare, turned_dead, turned_alive, turned_whole, fit_whole, small_nogoods, fresh_from, length_branch_of, not_decided, decided_state}
@@ -48,7 +49,7 @@ returns-in-Err g c =
         nogoods = w.base;
         words = ap (λ k. take k bs) used ∙ f.words ∙ ap (λ k. recorded (base_of (take k bs))) (sym used);
       };
-      linked = record { wired = c.requires.linked.wired; known = subst (λ k. Knows (take k bs) c.args.links.now.index) (sym used) c.requires.linked.known };
+      linked = record { wired = c.requires.linked.wired; spread = c.requires.linked.spread; known = subst (λ k. Knows (take k bs) c.args.links.now.index) (sym used) c.requires.linked.known };
       fresh = λ e. absurd (not_decided om pm (length bs) c.args.left h h' q q s s' c.turn_dead.result (d.turn bs) e);
       beyond = c.refresh-remains.ensures.beyond;
       kept = record {
@@ -132,7 +133,7 @@ returns g c =
         nogoods = w.base;
         words = d.words;
       };
-      linked = record { wired = subst (Wired m) (sym d.wires) c.requires.linked.wired; known = d.known };
+      linked = record { wired = subst (Wired m) (sym d.wires) c.requires.linked.wired; spread = subst (Spreads m) (sym d.spreads) c.requires.linked.spread; known = d.known };
       fresh = λ e. let k = decided_state om pm (length bs) c.args.left h h' q q' s s' c.turn_alive.result masks a e in fresh_from lists m p p' ws ws' bs bs' ds k.0 k.1 lives;
       beyond = c.refresh-remains.ensures.beyond;
       kept = kept;

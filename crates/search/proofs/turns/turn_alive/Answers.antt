@@ -76,6 +76,7 @@ returns-then-is_due g c =
       };
       known = c.add.ensures.known;
       wires = c.add.ensures.wires;
+      spreads = c.add.ensures.spreads;
     }
 
 pub returns : goal.returns
@@ -113,4 +114,5 @@ returns g c =
       };
       known = subst (λ k. Knows (take k bs) c.args.links.now.index) (sym used) c.requires.known;
       wires = refl;
+      spreads = refl;
     }

@@ -2,9 +2,15 @@ use Rattle.std.proofs.Common.{◌≡◌, ℕ, ◌^◌, ◌<◌, length, get_or, 
 use Rattle.std.proofs.lemmas.Result.{on_err_weaker}
 use Rattle.model.specs.Words.{base_of, branch_of, decision}
 use Rattle.model.specs.Remains.{family}
+use Rattle.rules.proofs.Digits.{has_below}
 use Rattle.propagation.proofs.Starting.{obeys_inside}
 use Rattle.propagation.proofs.Filtering.{doomed, doomed_dies, lives, on_err, on_ok_three}
 use Rattle.propagation.proofs.desk.Desk.filter.Goals as goal
+
+pub run-requires-clause-small : goal.run-requires-clause-small
+run-requires-clause-small g c = λ x y h.
+    let ls = c.args.lists.now in
+    has_below (get_or ls x 0) y (omega (arith, c.type_inv.lists x)) (c.prepare.ensures.inside x y h)
 
 pub returns-in_err-prepare-clause-dead : goal.returns-in_err-prepare-clause-dead
 returns-in_err-prepare-clause-dead g c =

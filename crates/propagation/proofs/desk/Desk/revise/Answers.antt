@@ -15,11 +15,11 @@ returns-clause-within g c =
     let x = c.in-Some.pair in
     let n = c.turned-near.result.0 in
     let f = c.turned-near.result.1 in
-    let k = c.kept_at-keeps.result in
+    let k = c.backed-keeps.result in
     let is = sym c.in-Some.ensures.read in
     let apart = ends_apart m law i x is in
     let h = c.turned-near.ensures in
-    looked_within m ms ms' i s x n f k is h.here h.there apart c.requires.held.fits.groups c.kept_at-keeps.ensures.kept c.shrink.ensures.left
+    looked_within m ms ms' i s x n f k is h.here h.there apart c.requires.held.fits.groups c.backed-keeps.ensures c.shrink.ensures.left
 
 pub returns-clause-dead : goal.returns-clause-dead
 returns-clause-dead g c =
@@ -32,11 +32,11 @@ returns-clause-dead g c =
     let x = c.in-Some.pair in
     let n = c.turned-near.result.0 in
     let f = c.turned-near.result.1 in
-    let k = c.kept_at-keeps.result in
+    let k = c.backed-keeps.result in
     let is = sym c.in-Some.ensures.read in
     let apart = ends_apart m law i x is in
     let h = c.turned-near.ensures in
-    on_err_weaker c.shrink.result (looked_dead m ms ms' i s x n f k is h.here h.there apart c.requires.held.fits.groups c.kept_at-keeps.ensures.kept c.shrink.ensures.left) c.shrink.ensures.dead
+    on_err_weaker c.shrink.result (looked_dead m ms ms' i s x n f k is h.here h.there apart c.requires.held.fits.groups c.backed-keeps.ensures c.shrink.ensures.left) c.shrink.ensures.dead
 
 pub returns-clause-done : goal.returns-clause-done
 returns-clause-done g c =
@@ -49,8 +49,8 @@ returns-clause-done g c =
     let x = c.in-Some.pair in
     let n = c.turned-near.result.0 in
     let f = c.turned-near.result.1 in
-    let k = c.kept_at-keeps.result in
+    let k = c.backed-keeps.result in
     let is = sym c.in-Some.ensures.read in
     let apart = ends_apart m law i x is in
     let h = c.turned-near.ensures in
-    on_ok_weaker c.shrink.result (λ _. looked_done m ms ms' i s x n f k is h.here h.there apart c.requires.held.fits.groups c.kept_at-keeps.ensures.kept c.shrink.ensures.left) c.shrink.ensures.step
+    on_ok_weaker c.shrink.result (λ _. looked_done m ms ms' i s x n f k is h.here h.there apart c.requires.held.fits.groups c.backed-keeps.ensures c.shrink.ensures.left) c.shrink.ensures.step

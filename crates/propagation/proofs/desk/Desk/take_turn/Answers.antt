@@ -19,6 +19,7 @@ heed-requires-clause-held g c =
       fits = search rules;
       settled = settled_from c.args.self.now.domains.now (queued c.args.self.now.settled) (queued c.pop.new.self) _ c.in-Some.ensures.line h.settled;
       alive = h.alive;
+      small = h.small;
     }
 
 pub heed-requires-clause-others : goal.heed-requires-clause-others
@@ -95,6 +96,7 @@ returns-clause-turned g c =
         fits = search rules;
         settled = subst (λ (x : List Assignment). Settled ms x) (sym same) h.settled;
         alive = h.alive;
+        small = h.small;
       };
       same = refl;
       agrees = all_done m (base_of d0.base.now) ms (queued d0.line.ends) (queued d0.settled) f.0 o.0 c.requires.going.calm c.requires.going.good;

@@ -1,8 +1,8 @@
 use Rattle.std.proofs.Common.{◌≡◌, ℕ, ◌-◌, ◌≤◌, true, not, ◌&&◌, eqb, ltb, sym, subst, arith, pow_pos}
 use Rattle.std.proofs.lemmas.Bool.{and_parts}
-use Rattle.propagation.proofs.Digits.{shifted, dig_ge, has_dig, minus_has}
+use Rattle.rules.proofs.Digits.{shifted, dig_ge, has_dig, minus_has}
 use Rattle.rules.specs.Channels.{has}
-use Rattle.propagation.proofs.bits.without.Goals as goal
+use Rattle.rules.proofs.bits.without.Goals as goal
 
 pub overflow_sub-result : goal.overflow_sub-result
 overflow_sub-result c =

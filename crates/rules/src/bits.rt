@@ -1,10 +1,10 @@
 // Sets of channels as 64-bit numbers.
-ghost use Rattle.std.specs.Prelude.{◌≡◌, ℕ, ◌<◌, ◌≤◌, true, not, ◌&&◌, ◌==◌};
+ghost use Rattle.std.specs.Prelude.{◌≡◌, ℕ, ◌<◌, ◌≤◌, min, true, not, ◌&&◌, ◌==◌, nat_le, nat_lt};
 ghost use Rattle.std.specs.Iterator.{at_most};
 ghost use Rattle.rules.specs.Channels.{has};
-ghost use Rattle.propagation.specs.Takings.{TakesOne};
+ghost use Rattle.rules.specs.Takings.{TakesOne};
 
-use rules::channels::has_channel;
+use super::channels::has_channel;
 
 // The set without the channel.
 pub fn without(set: u64, c: u8) -> u64
@@ -25,8 +25,33 @@ pub fn lowest(set: u64) -> u8
     requires { set ≡ 0 → ⊥ }
     ensures small { result < 64 }
     ensures there { has set result ≡ true }
+    ensures least { (j : ℕ) → has set j ≡ true → result ≤ j }
 {
     set.trailing_zeros() as u8
+}
+
+// The highest channel of a set that has one.
+pub fn highest(set: u64) -> u8
+    requires { set ≡ 0 → ⊥ }
+    ensures small { result < 64 }
+    ensures there { has set result ≡ true }
+    ensures most { (j : ℕ) → has set j ≡ true → j ≤ result }
+{
+    set.ilog2() as u8
+}
+
+// The channels from `c` on.
+pub fn from_on(c: u32) -> u64
+    ensures { (j : ℕ) → has result j ≡ (nat_le c j && nat_lt j 64) }
+{
+    if c < 64 { u64::MAX - ((1 << c) - 1) } else { 0 }
+}
+
+// The channels below `c`.
+pub fn below(c: u32) -> u64
+    ensures { (j : ℕ) → has result j ≡ nat_lt j (min c 64) }
+{
+    if c < 64 { (1 << c) - 1 } else { u64::MAX }
 }
 
 // The channels of a set, the lowest first. A range of 64 numbers would look at those too that are not there.

@@ -5,7 +5,7 @@ use lib.Pow.{pow-lt}
 use lib.Count.{count_trailing_zeros, under}
 use Rattle.std.proofs.lemmas.Bool.{eqb-true, eq-eqb, ne_eqb, eqb-false, cases_eq, both_ways, and_parts, and_from, and_cases, not-true, not-false}
 use Rattle.rules.specs.Channels.{has}
-use Rattle.model.proofs.Tests.{seek}
+use Rattle.rules.proofs.Firsts.{seek}
 
 abbrev pub dig : ℕ → ℕ → ℕ
 dig m c = (m / 2 ^ c) % 2

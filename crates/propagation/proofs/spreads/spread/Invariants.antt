@@ -1,0 +1,5 @@
+use Rattle.propagation.specs.Spreads.{Enough}
+use Rattle.propagation.proofs.spreads.spread.Given as goal
+
+abbrev pub invariant-loop-i : goal.invariant-loop-i
+invariant-loop-i g l = Enough (g.B.RuleBook.meaning l.book) l.i l.spreads
