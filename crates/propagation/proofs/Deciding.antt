@@ -34,16 +34,11 @@ agrees_good m base ms s a = All-weaker (Heeds (family ms)) (Good ms s) (λ n h _
 
 module _ (lists : List ℕ) (m : Meaning) (base : List (List ℕ)) (ws : List ℕ) (fits : (i : ℕ) → get_or lists i 0 < 2 ^ 64)
     (ms : List ℕ) (before : Lives lists m base (branch_of ws (length ws - 1)) ms)
-    (some : 0 < length ws) (low : get_or ws (length ws - 1) 0 < 65536) (r : ℕ) (here : get_or ws (length ws - 1) 0 / 64 < length ms)
-    (bits : (j : ℕ) → has r j ≡ (has (get_or ms (get_or ws (length ws - 1) 0 / 64) 0) j && eqb j (get_or ws (length ws - 1) 0 % 64))) where
-  abbrev last : ℕ
-  last = get_or ws (length ws - 1) 0
-
-  -- the family in hand with the decision, before the work
-  abbrev start : List ℕ
-  start = set ms (last / 64) r
-
-  -- every family that meets the conditions is in the family in hand, and keeps but the channel decided
+    (some : 0 < length ws) (g r : ℕ) (here : g < length ms)
+    (inside : (j : ℕ) → has r j ≡ true → has (get_or ms g 0) j ≡ true)
+    (obeys : Obeys (family (set ms g r)) (decision (get_or ws (length ws - 1) 0)))
+    (within : (k : Family) → Obeys k (decision (get_or ws (length ws - 1) 0)) → Inside k (family ms) → Inside k (family (set ms g r))) where
+  -- every family that meets the conditions is in the family in hand
   hand : (k : Family) → ((i : ℕ) → i < length ws → Obeys k (decision (get_or ws i 0))) → Agrees m base k → Inside k (family lists) → Inside k (family ms)
   hand k o a ins = before.remains.largest k (record {
     within = λ g c e. listed lists m base ws fits g c (ins g c e);
@@ -53,21 +48,15 @@ module _ (lists : List ℕ) (m : Meaning) (base : List (List ℕ)) (ws : List �
     heeded = a.heeds;
   })
 
-  newest : (k : Family) → Obeys k (decision last) → Only k last
-  newest k o = subst (Obeys k) (is_taken last low) o
+  pub decided_carries : (ms' : List ℕ) → ((k : Family) → Agrees m base k → Inside k (family (set ms g r)) → Inside k (family ms')) → Carries lists m base ws fits ms'
+  decided_carries ms' f k o a ins = f k a (within k (o (length ws - 1) (omega arith)) (hand k o a ins))
 
-  pub decided_carries : (ms' : List ℕ) → ((k : Family) → Agrees m base k → Inside k (family start) → Inside k (family ms')) → Carries lists m base ws fits ms'
-  decided_carries ms' f k o a ins = f k a (taken_within ms last r here bits k (newest k (o (length ws - 1) (omega arith))) (hand k o a ins))
+  pub decided_inside : (k : Family) → Inside k (family (set ms g r)) → Inside k (family lists)
+  decided_inside k ins x c e = (before.remains.meets.within x c (set_inside ms g r here inside x c (ins x c e))).bit
 
-  pub decided_inside : (k : Family) → Inside k (family start) → Inside k (family lists)
-  decided_inside k ins g c e = (before.remains.meets.within g c (start_inside g c (ins g c e))).bit
-    where
-      start_inside : Inside (family start) (family ms)
-      start_inside = set_inside ms (last / 64) r here (taken_inside ms last r here bits)
-
-  pub decided_obeys : (k : Family) → Inside k (family start) → (i : ℕ) → i < length ws → Obeys k (decision (get_or ws i 0))
+  pub decided_obeys : (k : Family) → Inside k (family (set ms g r)) → (i : ℕ) → i < length ws → Obeys k (decision (get_or ws i 0))
   decided_obeys k ins i l = elim (cases_eq i (length ws - 1)) [
-    | inl q ↦ subst (λ (x : ℕ). Obeys k (decision (get_or ws x 0))) (sym q) (subst (Obeys k) (sym (is_taken last low)) (λ c e. taken_obeys ms last r here bits c (ins (grp last) c e)))
-    | inr n ↦ obeys_inside k (family ms) (decision (get_or ws i 0)) (λ g c e. set_inside ms (last / 64) r here (taken_inside ms last r here bits) g c (ins g c e))
+    | inl q ↦ subst (λ (x : ℕ). Obeys k (decision (get_or ws x 0))) (sym q) (obeys_inside k (family (set ms g r)) (decision (get_or ws (length ws - 1) 0)) ins obeys)
+    | inr n ↦ obeys_inside k (family ms) (decision (get_or ws i 0)) (λ x c e. set_inside ms g r here inside x c (ins x c e))
         (all_branch (Obeys (family ms)) ws (length ws - 1) before.remains.meets.decided i (omega arith))
   ]

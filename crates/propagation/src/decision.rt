@@ -3,8 +3,9 @@ ghost use Rattle.std.specs.Prelude.{◌≡◌, ℕ, ◌-◌, ◌<◌, ◌≤◌,
 ghost use Rattle.std.specs.List.{AllByRecursion};
 ghost use Rattle.rules.specs.Channels.{has};
 ghost use Rattle.model.specs.Masks.{grp};
-ghost use Rattle.model.specs.Words.{base_of, branch_of};
-ghost use Rattle.model.specs.Remains.{Family, family, Alive};
+ghost use Rattle.model.specs.Decisions.{word as assigned};
+ghost use Rattle.model.specs.Words.{decision, base_of, branch_of};
+ghost use Rattle.model.specs.Remains.{Family, family, Obeys, Alive};
 ghost use Rattle.propagation.specs.Supports.{Inside};
 ghost use Rattle.propagation.specs.Settling.{Emptied};
 ghost use Rattle.propagation.specs.Desks.{SameDesk, Small, Laid};
@@ -17,8 +18,7 @@ ghost use Rattle.propagation.specs.Benches.{SameRegions, Roomy, Beyond};
 use super::bench::{Bench, Dead};
 use super::desk::Desk;
 use super::links::Links;
-use super::start::alone;
-use model::decision::{channel_of, group_of};
+use super::start::left_by;
 use rules::book::RuleBook;
 
 impl<'d, B: RuleBook> Desk<'d, B> {
@@ -41,26 +41,35 @@ impl<'d, B: RuleBook> Desk<'d, B> {
         self.work()
     }
 
-    // What remains once one more decision is taken.
+    // The group of the decision of a word, and the channels that are left to it. (A method of its own, as `forced`.)
+    pub fn left_by(&self, word: u32) -> (usize, u64)
+        requires { grp (assigned (decision word)) < length self.now.domains.now }
+        ensures group { result.0 ≡ grp (assigned (decision word)) }
+        ensures inside { (j : ℕ) → has result.1 j ≡ true → has (slice_index self.now.domains.now result.0) j ≡ true }
+        ensures obeys { Obeys (family (slice_set self.now.domains.now result.0 result.1)) (decision word) }
+        ensures within { (k : Family) → Obeys k (decision word) → Inside k (family self.now.domains.now) → Inside k (family (slice_set self.now.domains.now result.0 result.1)) }
+    {
+        left_by(self.domains, word)
+    }
+
+    // What remains once one more decision is made.
     pub fn filter_decision(&mut self, lists: &[u64], branch: &[u32]) -> Result<(), Dead>
         requires laid { Laid (B.meaning self.old.book.now) self.old }
         requires groups { length lists.now ≡ (B.meaning self.old.book.now).groups }
         requires some { 0 < length branch.now }
-        requires taken { slice_index branch.now (length branch.now - 1) < 65536 }
-        requires group { grp (slice_index branch.now (length branch.now - 1)) < length lists.now }
+        requires group { grp (assigned (decision (slice_index branch.now (length branch.now - 1)))) < length lists.now }
         requires before { Lives lists.now (B.meaning self.old.book.now) (base_of self.old.base.now) (branch_of branch.now (length branch.now - 1)) self.old.domains.now }
         ensures same { SameDesk self.old self.new }
         ensures dead { OnErr result (Dies lists.now (B.meaning self.old.book.now) (base_of self.old.base.now) (branch_of branch.now (length branch.now))) }
         ensures lives { OnOk result (Lives lists.now (B.meaning self.old.book.now) (base_of self.old.base.now) (branch_of branch.now (length branch.now)) self.new.domains.now) }
     {
         let word = branch[branch.len() - 1];
-        let g = group_of(word);
-        let keeps = alone(self.domains[g], channel_of(word));
+        let (g, keeps) = self.left_by(word);
         self.resume(g as u16, keeps)
     }
 }
 
-// What remains once the newest decision of the branch is taken, where the region has what remained before it.
+// What remains once the newest decision of the branch is made, where the region has what remained before it.
 // Only what that decision calls for is looked at. Words beyond the sizes needed are untouched. An inner call, like `propagate`.
 pub fn propagate_decision<B: RuleBook>(
     lists: &[u64],
@@ -77,8 +86,7 @@ pub fn propagate_decision<B: RuleBook>(
     requires roomy { Roomy (length lists.now) (B.meaning book.now).count (length bench.old.domains.now) (length bench.old.marks.now) (length bench.old.ends.now) (length bench.old.settled.now) }
     requires grouped { AllByRecursion (Grouped (length lists.now)) (base_of base.now) }
     requires some { 0 < length branch.now }
-    requires taken { slice_index branch.now (length branch.now - 1) < 65536 }
-    requires group { grp (slice_index branch.now (length branch.now - 1)) < length lists.now }
+    requires group { grp (assigned (decision (slice_index branch.now (length branch.now - 1)))) < length lists.now }
     requires before { Lives lists.now (B.meaning book.now) (base_of base.now) (branch_of branch.now (length branch.now - 1)) (take (length lists.now) bench.old.domains.now) }
     ensures same { SameRegions bench.old bench.new }
     ensures dead { OnErr result (Dies lists.now (B.meaning book.now) (base_of base.now) (branch_of branch.now (length branch.now))) }

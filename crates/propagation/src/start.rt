@@ -1,5 +1,5 @@
 // Where the work starts: the lists after the decisions.
-ghost use Rattle.std.specs.Prelude.{◌≡◌, ℕ, ◌<◌, Bool, true, false, ◌&&◌, length, Decides, ◌==◌, slice_index};
+ghost use Rattle.std.specs.Prelude.{◌≡◌, ℕ, ◌<◌, Bool, true, false, ◌&&◌, length, Decides, ◌==◌, slice_index, slice_set};
 ghost use Rattle.rules.specs.Channels.{has};
 ghost use Rattle.model.specs.Masks.{grp};
 ghost use Rattle.model.specs.Decisions.{word as assigned};
@@ -20,6 +20,26 @@ pub fn alone(set: u64, c: u8) -> u64
     if has_channel(set, c) { 1 << c } else { 0 }
 }
 
+// The group of the decision of a word of the branch, and the channels that are left to it.
+pub fn left_by(domains: &[u64], word: u32) -> (usize, u64)
+    requires { grp (assigned (decision word)) < length domains.now }
+    ensures group { result.0 ≡ grp (assigned (decision word)) }
+    ensures inside { (j : ℕ) → has result.1 j ≡ true → has (slice_index domains.now result.0) j ≡ true }
+    ensures obeys { Obeys (family (slice_set domains.now result.0 result.1)) (decision word) }
+    ensures within { (k : Family) → Obeys k (decision word) → Inside k (family domains.now) → Inside k (family (slice_set domains.now result.0 result.1)) }
+{
+    match Decision::from(word) {
+        Decision::Taken(v) => {
+            let g = group_of(v);
+            (g, alone(domains[g], channel_of(v)))
+        }
+        Decision::Refused(v) => {
+            let g = group_of(v);
+            (g, without(domains[g], channel_of(v)))
+        }
+    }
+}
+
 // The decision of a word of the branch.
 pub fn decide(domains: &mut [u64], word: u32)
     requires { grp (assigned (decision word)) < length domains.old }
@@ -27,16 +47,8 @@ pub fn decide(domains: &mut [u64], word: u32)
     ensures obeys { Obeys (family domains.new) (decision word) }
     ensures within { (k : Family) → Obeys k (decision word) → Inside k (family domains.old) → Inside k (family domains.new) }
 {
-    match Decision::from(word) {
-        Decision::Taken(v) => {
-            let g = group_of(v);
-            domains[g] = alone(domains[g], channel_of(v));
-        }
-        Decision::Refused(v) => {
-            let g = group_of(v);
-            domains[g] = without(domains[g], channel_of(v));
-        }
-    }
+    let (g, keeps) = left_by(domains, word);
+    domains[g] = keeps;
 }
 
 // All decisions of the branch.

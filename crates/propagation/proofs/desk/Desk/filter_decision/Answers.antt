@@ -25,20 +25,17 @@ returns-clause-dead g c =
     let size : length c.args.self.now.domains.now ≡ length ls = c.requires.laid.fits.groups ∙ sym c.requires.groups in
     let ms = c.args.self.now.domains.now in
     let ms' = c.resume.new.self.domains.now in
-    let last = get_or ws (length ws - 1) 0 in
-    let here : last / 64 < length ms = omega (arith, c.requires.group, size) in
-    let eg : c.group_of-g.result ≡ last / 64 = c.group_of-g.ensures in
-    let k = c.alone-keeps.result in
-    let bits : (j : ℕ) → has k j ≡ (has (get_or ms (last / 64) 0) j && eqb j (last % 64)) = rw (eg, c.channel_of.ensures.is) at c.alone-keeps.ensures in
+    let x = c.left_by-g.result.0 in
+    let k = c.left_by-g.result.1 in
+    let d = c.left_by-g.ensures in
+    let here : x < length ms = omega (arith, d.group, c.requires.group, size) in
     let r = c.resume.ensures in
-    let within : (f : Family) → Agrees m base f → Inside f (family (set ms (last / 64) k)) → Inside f (family ms') = subst (λ (x : ℕ). (f : Family) → Agrees m base f → Inside f (family (set ms x k)) → Inside f (family ms')) eg r.within in
-    let carries = decided_carries ls m base ws fits ms c.requires.before c.requires.some c.requires.taken k here bits ms' within in
+    let carries = decided_carries ls m base ws fits ms c.requires.before c.requires.some x k here d.inside d.obeys d.within ms' r.within in
     on_err_weaker c.resume.result (λ e. doomed_dies ls m law base (branch_of ws (length ws)) (doomed ls m base ws fits ms' (r.same.groups ∙ size) carries e)) r.dead
 
 pub returns-clause-lives : goal.returns-clause-lives
 returns-clause-lives g c =
     let m = g.B.RuleBook.meaning c.args.self.now.book.now in
-    let law = g.B.RuleBook.lawful c.args.self.now.book.now in
     let ls = c.args.lists.now in
     let ws = c.args.branch.now in
     let base = base_of c.args.self.now.base.now in
@@ -46,15 +43,12 @@ returns-clause-lives g c =
     let size : length c.args.self.now.domains.now ≡ length ls = c.requires.laid.fits.groups ∙ sym c.requires.groups in
     let ms = c.args.self.now.domains.now in
     let ms' = c.resume.new.self.domains.now in
-    let last = get_or ws (length ws - 1) 0 in
-    let here : last / 64 < length ms = omega (arith, c.requires.group, size) in
-    let eg : c.group_of-g.result ≡ last / 64 = c.group_of-g.ensures in
-    let k = c.alone-keeps.result in
-    let bits : (j : ℕ) → has k j ≡ (has (get_or ms (last / 64) 0) j && eqb j (last % 64)) = rw (eg, c.channel_of.ensures.is) at c.alone-keeps.ensures in
+    let x = c.left_by-g.result.0 in
+    let k = c.left_by-g.result.1 in
+    let d = c.left_by-g.ensures in
+    let here : x < length ms = omega (arith, d.group, c.requires.group, size) in
     let r = c.resume.ensures in
-    let within : (f : Family) → Agrees m base f → Inside f (family (set ms (last / 64) k)) → Inside f (family ms') = subst (λ (x : ℕ). (f : Family) → Agrees m base f → Inside f (family (set ms x k)) → Inside f (family ms')) eg r.within in
-    let carries = decided_carries ls m base ws fits ms c.requires.before c.requires.some c.requires.taken k here bits ms' within in
-    let into = λ (i : Inside (family ms') (family (set ms c.group_of-g.result k))). subst (λ (x : ℕ). Inside (family ms') (family (set ms x k))) eg i in
+    let carries = decided_carries ls m base ws fits ms c.requires.before c.requires.some x k here d.inside d.obeys d.within ms' r.within in
     on_ok_three c.resume.result (λ i a e. lives ls m base ws fits ms' (r.same.groups ∙ size) carries
-    (decided_inside ls m base ws fits ms c.requires.before c.requires.some c.requires.taken k here bits (family ms') (into i))
-    (decided_obeys ls m base ws fits ms c.requires.before c.requires.some c.requires.taken k here bits (family ms') (into i)) a e) r.inside r.agrees r.alive
+    (decided_inside ls m base ws fits ms c.requires.before c.requires.some x k here d.inside d.obeys d.within (family ms') i)
+    (decided_obeys ls m base ws fits ms c.requires.before c.requires.some x k here d.inside d.obeys d.within (family ms') i) a e) r.inside r.agrees r.alive
