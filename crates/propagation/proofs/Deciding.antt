@@ -1,13 +1,11 @@
 -- One more decision, from the family in hand. Assumes nothing.
-use Rattle.std.proofs.Common.{◌≡◌, ℕ, ◌-◌, ◌/◌, ◌%◌, ◌^◌, ◌<◌, ◌≤◌, true, false, ◌&&◌, eqb, List, length, get_or, set, sym, subst, inl, inr, arith}
+use Rattle.std.proofs.Common.{◌≡◌, ℕ, ◌-◌, ◌^◌, ◌<◌, ◌≤◌, true, false, List, length, get_or, set, sym, subst, inl, inr, arith}
 use Rattle.std.specs.List.{AllByRecursion}
 use Rattle.std.proofs.lemmas.Bool.{cases_eq, eq-eqb}
 use Rattle.rules.specs.Meanings.{Meaning}
 use Rattle.rules.specs.Channels.{has}
-use Rattle.model.specs.Masks.{grp}
 use Rattle.model.specs.Words.{decision, branch_of}
-use Rattle.model.specs.Remains.{Family, family, Only, Obeys}
-use Rattle.model.proofs.Words.{is_taken}
+use Rattle.model.specs.Remains.{Family, family, Obeys}
 use Rattle.propagation.specs.declared.records.RuleEnd.{RuleEnd}
 use Rattle.propagation.specs.declared.records.Assignment.{Assignment}
 use Rattle.propagation.specs.Supports.{Inside}
@@ -15,7 +13,7 @@ use Rattle.propagation.specs.Bases.{Good}
 use Rattle.propagation.specs.Calms.{Agrees, Calm}
 use Rattle.propagation.specs.Filtered.{Lives}
 use Rattle.rules.proofs.Digits.{has_dig, digs_le}
-use Rattle.propagation.proofs.Starting.{obeys_inside, branch_all, all_branch, taken_inside, taken_obeys, taken_within}
+use Rattle.propagation.proofs.Starting.{obeys_inside, branch_all, all_branch}
 use Rattle.propagation.proofs.Steps.{set_inside}
 use Rattle.propagation.proofs.Filtering.{listed, Carries}
 use Rattle.std.proofs.ByRecursion.{All-weaker}

@@ -1,5 +1,5 @@
 -- How a sitting stands after some of its moves, and how it ends.
-use Rattle.std.proofs.Common.{◌≡◌, ℕ, zero, suc, ◌+◌, ◌-◌, ◌*◌, ◌^◌, ◌<◌, ◌≤◌, ◌⊎◌, List, [], ◌∷◌, ◌++◌, length, get_or, take, drop, Some, None, Option, sym, refl, ap, ◌∙◌, subst, inl, inr, one-add, arith}
+use Rattle.std.proofs.Common.{◌≡◌, ℕ, zero, suc, ◌+◌, ◌-◌, ◌*◌, ◌^◌, ◌<◌, ◌≤◌, ◌⊎◌, List, [], ◌∷◌, ◌++◌, length, get_or, take, drop, None, sym, refl, ap, ◌∙◌, subst, inl, inr, one-add, arith}
 use lib.Count.{ones, count_trailing_zeros}
 use Rattle.std.proofs.lemmas.List.{drop-drop, length-take-le}
 use Rattle.rules.specs.Channels.{Has}
@@ -31,11 +31,9 @@ use Rattle.search.proofs.Turning.{length_branch_of}
 use Rattle.search.specs.Sittings.{Lent, request, ComesTo, Settles}
 use Rattle.search.specs.Calls.{asking}
 use Rattle.search.specs.declared.regions.Regions.{Regions}
-use Rattle.search.specs.declared.turns.Move.{Move}
-use Rattle.search.specs.declared.turns.Move.TheVariants.{Decide}
 use Rattle.search.specs.Counts.{Counted}
 use Rattle.search.specs.Regions.{SameRegions, Sizes}
-use Rattle.search.specs.Turns.{state_of, Fit, Fresh, KeptWords, Moved}
+use Rattle.search.specs.Turns.{state_of, Fit, KeptWords, Moved}
 
 -- The search at a state, with the events and restarts of the call so far.
 abbrev pub at : State → List Event → ℕ → Search
@@ -112,7 +110,7 @@ module _ {O P H Q : Type 0} (om : OrderMeaning H) (pm : PolicyMeaning Q) (oh : O
   FromStart left t = Onward lists book (behaviour om (oh found.order)) (cutoffs pm (ph found.policy)) (length found.base) allowance (begun (state_of p₀ found.branch found.base)) left t
 
   -- After some moves, with so many left.
-  pub record Along (left : ℕ) (last : Option Move) (p : Progress) (here : Lent O P) : Type 0 where
+  pub record Along (left : ℕ) (p : Progress) (here : Lent O P) : Type 0 where
     pub events : List Event
     pub restarts : ℕ
     pub order : oh here.order ≡ held_after om (oh found.order) events
@@ -120,20 +118,19 @@ module _ {O P H Q : Type 0} (om : OrderMeaning H) (pm : PolicyMeaning Q) (oh : O
     pub onward : FromStart left (at (state_of p here.branch here.base) events restarts)
     pub counted : Counted left p
     pub fit : Fit lists p here.branch here.base
-    pub fresh : last ≡ Some Decide → Fresh lists book p here.branch here.base here.domains
     pub beyond : Beyond (length lists) book.count found.domains here.domains found.marks here.marks found.ends here.ends found.settled here.settled
     pub kept : KeptWords (length lists) p₀.base_used p.base_used found.branch here.branch found.base here.base
     pub plan : here.plan ≡ found.plan
     pub room : length here.base ≡ length found.base
 
   -- One move more.
-  pub along_more : (left : ℕ) (last last' : Option Move) (p p' : Progress) (here next : Lent O P) (masks : List ℕ) → Along left last p here
+  pub along_more : (left : ℕ) (p p' : Progress) (here next : Lent O P) (masks : List ℕ) → Along left p here
       → Moved lists book om pm (length here.base) left masks (oh here.order) (oh next.order) (ph here.policy) (ph next.policy) (state_of p here.branch here.base) (state_of p' next.branch next.base)
-      → Fit lists p' next.branch next.base → (last' ≡ Some Decide → Fresh lists book p' next.branch next.base next.domains)
+      → Fit lists p' next.branch next.base
       → Beyond (length lists) book.count here.domains next.domains here.marks next.marks here.ends next.ends here.settled next.settled
       → KeptWords (length lists) p.base_used p'.base_used here.branch next.branch here.base next.base
-      → next.plan ≡ here.plan → length next.base ≡ length here.base → Along (left - 1) last' p' next
-  along_more left last last' p p' here next masks a m fit fresh beyond kept plan long =
+      → next.plan ≡ here.plan → length next.base ≡ length here.base → Along (left - 1) p' next
+  along_more left p p' here next masks a m fit beyond kept plan long =
       let s = state_of p here.branch here.base in
       let h = oh found.order in
       let q = ph found.policy in
@@ -157,7 +154,6 @@ module _ {O P H Q : Type 0} (om : OrderMeaning H) (pm : PolicyMeaning Q) (oh : O
             (onward_more lists book (behaviour om h) (cutoffs pm q) (length found.base) allowance (begun (state_of p₀ found.branch found.base)) (left - 1) (at s a.events a.restarts) _ from moved);
         counted = record { moves = counted.moves; closings = counted.closings; restarts = counted.restarts; since = counted.since };
         fit = fit;
-        fresh = fresh;
         beyond = beyond_then a.beyond beyond;
         kept = kept_then (length lists) p₀.base_used p.base_used p'.base_used found.branch here.branch next.branch found.base here.base next.base a.kept kept;
         plan = plan ∙ a.plan;
@@ -188,7 +184,7 @@ single lists masks x alive narrow fits is g l =
 -- An accepted sitting that ends here.
 module _ {O P H Q : Type 0} (om : OrderMeaning H) (law : LawfulMeaning om) (pm : PolicyMeaning Q) (plaw : LawfulPolicy pm) (oh : O → H) (ph : P → Q) (book : Meaning) (blaw : Lawful book)
     (s : OpenSearch) (lists : List ℕ) (allowance : ℕ) (found : Lent O P) (accepted : sitting_refusal (request s lists book allowance found) ≡ None) where
-  pub comes : (left : ℕ) (last : Option Move) (p p' : Progress) (here next : Lent O P) (v : Verdict) (a : Along om pm oh ph book lists allowance s.at found left last p here)
+  pub comes : (left : ℕ) (p p' : Progress) (here next : Lent O P) (v : Verdict) (a : Along om pm oh ph book lists allowance s.at found left p here)
       → state_of p' next.branch next.base ≡ state_of p here.branch here.base → oh next.order ≡ oh here.order → ph next.policy ≡ ph here.policy
       → Sits lists book (behaviour om (oh found.order)) (cutoffs pm (ph found.policy)) (length found.base) left
       (at (state_of p here.branch here.base) a.events a.restarts) v (at (state_of p here.branch here.base) a.events a.restarts)
@@ -198,7 +194,7 @@ module _ {O P H Q : Type 0} (om : OrderMeaning H) (law : LawfulMeaning om) (pm :
       → Beyond (length lists) book.count here.domains next.domains here.marks next.marks here.ends next.ends here.settled next.settled
       → KeptWords (length lists) p.base_used p'.base_used here.branch next.branch here.base next.base
       → ComesTo om pm oh ph book s lists allowance found next v p'
-  comes left last p p' here next v a same so sp sits remain fit beyond kept =
+  comes left p p' here next v a same so sp sits remain fit beyond kept =
       let end = at (state_of p here.branch here.base) a.events a.restarts in
       let all = a.onward v end sits in
       record {

@@ -6,3 +6,4 @@ pub mod Turning
 pub mod Vets
 pub mod Along
 pub mod Ready
+pub mod Remembering

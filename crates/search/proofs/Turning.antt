@@ -1,22 +1,20 @@
 -- What a turn does to the numbers and the words is a turn of the search that they stand for.
-use Rattle.std.proofs.Common.{◌≡◌, ℕ, zero, suc, ◌+◌, ◌-◌, ◌*◌, ◌<◌, ◌≤◌, List, ◌∷◌, length, get_or, take, sym, refl, ap, ◌∙◌, subst, inl, inr, arith}
+use Rattle.std.proofs.Common.{◌≡◌, ℕ, zero, suc, ◌+◌, ◌*◌, ◌<◌, ◌≤◌, List, ◌∷◌, length, get_or, sym, refl, ap, ◌∙◌, subst, inl, inr, arith}
 use Rattle.std.specs.List.{AllByRecursion}
 use Rattle.std.proofs.ByRecursion.{All-append}
-use Rattle.std.proofs.lemmas.Bool.{cases_lt}
 use Rattle.rules.specs.Meanings.{Meaning, Lawful}
 use Rattle.branching.specs.Channels.{Open}
 use Rattle.branching.specs.Order.{OrderMeaning, Lawful as LawfulMeaning}
 use Rattle.branching.specs.Policy.{PolicyMeaning, LawfulPolicy}
 use Rattle.branching.specs.Bits.{counts_two, below_pow}
 use Rattle.model.specs.Masks.{grp, chan}
-use Rattle.model.specs.Decisions.{taken, refused, reduced, Nogood}
-use Rattle.model.specs.Words.{decision, branch_of, base_of}
+use Rattle.model.specs.Decisions.{taken, reduced, Nogood}
+use Rattle.model.specs.Words.{branch_of}
 use Rattle.model.specs.Remains.{family, Dead, Alive}
-use Rattle.model.specs.Moves.{State, nogoods, deciding}
+use Rattle.model.specs.Moves.{State, nogoods}
 use Rattle.model.proofs.Formed.{Whole, whole_move, free, reduced_nogoods}
 use Rattle.model.proofs.Marked.{branch_few}
 use Rattle.model.proofs.Remains.{remains_one}
-use Rattle.model.proofs.Words.{is_refused}
 use Rattle.propagation.specs.Bases.{Grouped}
 use Rattle.propagation.specs.Filtered.{Lives, Dies}
 use Rattle.laws.specs.Orders.{behaviour, cutoffs}
@@ -31,7 +29,7 @@ use Rattle.search.specs.declared.turns.Step.{Step}
 use Rattle.search.specs.declared.turns.Step.TheVariants.{None as EndsNone, Plan, Spent, Made}
 use Rattle.search.specs.declared.turns.Move.TheVariants.{Close, Restart, Decide}
 use Rattle.search.proofs.Fronts.{small_base}
-use Rattle.search.specs.Turns.{state_of, Fit, Fresh, DeadTurn, AliveTurn, Moved, Turned}
+use Rattle.search.specs.Turns.{state_of, Fit, DeadTurn, AliveTurn, Moved, Turned}
 
 pub length_branch_of : (ws : List ℕ) (n : ℕ) → length (branch_of ws n) ≡ n
 length_branch_of ws zero = refl
@@ -110,38 +108,3 @@ small_nogoods lists s l w = small_base lists (nogoods s) l (All-append (Nogood l
 
 pub fit_whole : (lists : List ℕ) (p : Progress) (branch base : List ℕ) → Fit lists p branch base → Whole lists (state_of p branch base)
 fit_whole lists p branch base f = record { branch = f.sound; base = f.nogoods }
-
--- After a decision the domains are what remained before it.
-pub fresh_from : (lists : List ℕ) (book : Meaning) (p p' : Progress) (ws ws' bs bs' ds : List ℕ) (w : ℕ) → state_of p' ws' bs' ≡ deciding w (state_of p ws bs)
-    → Lives lists book (base_of (take p.base_used bs)) (branch_of ws p.branch_len) (take (length lists) ds) → Fresh lists book p' ws' bs' ds
-fresh_from lists book p p' ws ws' bs bs' ds w e l =
-    let eb : branch_of ws' p'.branch_len ≡ taken w ∷ branch_of ws p.branch_len = ap (λ (s : State). s.branch) e in
-    let en : base_of (take p'.base_used bs') ≡ base_of (take p.base_used bs) = ap (λ (s : State). s.base) e in
-    let k : p'.branch_len ≡ suc p.branch_len = sym (length_branch_of ws' p'.branch_len) ∙ ap length eb ∙ ap suc (length_branch_of ws p.branch_len) in
-    let n = p.branch_len in
-    let less : p'.branch_len - 1 ≡ p.branch_len = omega arith in
-    let ec : decision (get_or ws' n 0) ∷ branch_of ws' n ≡ taken w ∷ branch_of ws n = sym (ap (branch_of ws') k) ∙ eb in
-    let ed : decision (get_or ws' n 0) ≡ taken w = cc in
-    let er : branch_of ws' n ≡ branch_of ws n = cc in
-    record {
-      some = omega arith;
-      taken = rw less (low (get_or ws' n 0) w ed);
-      before = subst (λ (j : ℕ). Lives lists book (base_of (take p'.base_used bs')) (branch_of ws' j) (take (length lists) ds)) (sym less)
-          (subst (λ ns. Lives lists book ns (branch_of ws' n) (take (length lists) ds)) (sym en) (subst (λ xs. Lives lists book (base_of (take p.base_used bs)) xs (take (length lists) ds)) (sym er) l));
-    }
-  where
-    low : (v w : ℕ) → decision v ≡ taken w → v < 65536
-    low v w e = elim (cases_lt v 65536) [
-      | inl l ↦ l
-      | inr l ↦ absurd (let r : refused (v - 65536) ≡ taken w = sym (is_refused v l) ∙ e in let z : ◌≡◌ {A = ℕ} 0 1 = cc in omega arith)
-    ]
-
--- What a turn is where it came to a decision.
-module _ {H Q : Type 0} (om : OrderMeaning H) (pm : PolicyMeaning Q) (room left : ℕ) (h h' : H) (q q' : Q) (s s' : State) (r : Step) where
-  pub not_decided : DeadTurn om left h h' s s' r → r ≡ Made Decide → ⊥
-  not_decided t e = subst (λ (x : Step). DeadTurn om left h h' s s' x) e t
-
-  pub decided_state : (ms : List ℕ) → AliveTurn om pm room left ms h h' q q' s s' r → r ≡ Made Decide → (w : ℕ) × (s' ≡ deciding w s)
-  decided_state ms t e =
-      let d : AliveTurn om pm room left ms h h' q q' s s' (Made Decide) = subst (λ (x : Step). AliveTurn om pm room left ms h h' q q' s s' x) e t in
-      (64 * d.2.group + d.2.channel, d.2.state)

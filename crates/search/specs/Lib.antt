@@ -2,6 +2,7 @@ pub mod Branches
 pub mod Counts
 pub mod Regions
 pub mod Turns
+pub mod Families
 pub mod Calls
 pub mod Sittings
 pub mod Restarts

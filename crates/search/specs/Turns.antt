@@ -1,5 +1,5 @@
 -- What one turn of a sitting does to the numbers of a search, and to the state that they and the words stand for.
-use Rattle.std.specs.Prelude.{◌≡◌, ℕ, ◌+◌, ◌-◌, ◌*◌, ◌<◌, ◌≤◌, ◌≢◌, ◌⊎◌, List, [], length, take, drop, Some, slice_index_or, slice_set}
+use Rattle.std.specs.Prelude.{◌≡◌, ℕ, ◌+◌, ◌-◌, ◌*◌, ◌<◌, ◌≤◌, ◌≢◌, ◌⊎◌, List, [], length, take, drop, Some, slice_set}
 use Rattle.std.specs.List.{AllByRecursion}
 use Rattle.rules.specs.Meanings.{Meaning}
 use Rattle.branching.specs.Channels.{Open}
@@ -120,10 +120,9 @@ pub record KeptWords (groups used used' : ℕ) (ws ws' bs bs' : List ℕ) : Type
   pub grown : used ≤ used'
   pub base : drop used' bs' ≡ drop used' bs
 
--- The newest decision is taken, and the domains are what remained before it.
+-- The domains are what remained before the newest decision.
 pub record Fresh (lists : List ℕ) (book : Meaning) (p : Progress) (branch base domains : List ℕ) : Type 0 where
   pub some : 0 < p.branch_len
-  pub taken : slice_index_or branch (p.branch_len - 1) 0 < 65536
   pub before : Lives lists book (base_of (take p.base_used base)) (branch_of branch (p.branch_len - 1)) (take (length lists) domains)
 
 module _ {H Q : Type 0} (lists : List ℕ) (book : Meaning) (om : OrderMeaning H) (pm : PolicyMeaning Q) (room left : ℕ) (masks : List ℕ) (h h' : H) (q q' : Q) (s s' : State) where

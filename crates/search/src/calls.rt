@@ -5,6 +5,7 @@ ghost use Rattle.search.specs.Regions.{SameRegions};
 ghost use Rattle.search.specs.Sittings.{lent_in, Opened, Unopened, Answers};
 ghost use Rattle.search.specs.Restarts.{RestartAnswers};
 
+use crate::befores::Befores;
 use crate::held::{OpenSearch, Progress, Sat, SettledSearch};
 use crate::moves::restart as restart_move;
 use crate::regions::Regions;
@@ -60,11 +61,19 @@ pub fn sitting<B: RuleBook, O: Order, P: RestartPolicy>(
     let base = &mut *regions.base;
     let mut links = links_of(book, &at, base);
     let mut left = allowance;
-    let mut last = None;
+    let mut befores = Befores::new();
     // A loop: its ends are answers of the turn.
     'moves: loop {
         match turn(
-            last, lists, book, order, policy, left, &mut at, &mut links, regions,
+            lists,
+            book,
+            order,
+            policy,
+            left,
+            &mut at,
+            &mut links,
+            &mut befores,
+            regions,
         ) {
             Step::None => return Ok(Sat::None(SettledSearch { at })),
             Step::Plan => {
@@ -75,10 +84,7 @@ pub fn sitting<B: RuleBook, O: Order, P: RestartPolicy>(
                 return Ok(Sat::Plan(SettledSearch { at }));
             }
             Step::Spent => return Ok(Sat::Open(OpenSearch { groups, at })),
-            Step::Made(made) => {
-                left -= 1;
-                last = Some(made);
-            }
+            Step::Made(_) => left -= 1,
         }
     }
 }

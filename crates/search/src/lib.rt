@@ -1,6 +1,7 @@
 // A search that is opened, sat on and settled, with its moves on lent regions.
 #![tactic(auto)]
 
+mod befores;
 pub mod calls;
 pub mod held;
 mod moves;

@@ -56,24 +56,27 @@ pub(crate) fn restart<P: RestartPolicy>(
     at.since = 0;
 }
 
-// Decide: the group and channel that the order answers are taken.
+// Decide: the group and channel that the order answers are taken. Answers the group.
 pub(crate) fn decide<O: Order>(
     order: &mut O,
     at: &mut Progress,
     domains: &[u64],
     branch: &mut [u32],
-)
+) -> u16
     requires groups { length domains.now ≤ 200 }
     requires wide { (g : ℕ) × Open domains.now g }
     requires room { at.old.branch_len < length branch.old }
     requires few { at.old.branch_len < 12800 }
     requires counted { Counted 1 at.old }
+    ensures group { result ≡ slice_index branch.new at.old.branch_len / 64 }
+    ensures below { result < length domains.now }
     ensures decides { Decides O.meaning (O.held order.old) (O.held order.new) domains.now at.old at.new branch.old branch.new }
 {
     let (group, channel) = pick(order, domains).unwrap();
     branch[at.branch_len as usize] = assignment_word(group, channel);
     at.branch_len += 1;
     at.counts.moves += 1;
+    group
 }
 
 // Whether some group keeps two or more channels.

@@ -1,5 +1,6 @@
 // One turn of a sitting: what remains, and then an end, a stop, or the first move that applies.
-ghost use Rattle.std.specs.Prelude.{◌≡◌, ℕ, ◌+◌, ◌*◌, ◌<◌, ◌≤◌, true, false, List, length, take, drop, Some, OnOk, OnErr};
+ghost use Rattle.std.specs.Prelude.{◌≡◌, ℕ, ◌+◌, ◌*◌, ◌/◌, ◌<◌, ◌≤◌, true, false, List, length, take, drop, OnOk, OnErr, slice_index};
+ghost use Rattle.rules.specs.Meanings.{Meaning};
 ghost use Rattle.branching.specs.Channels.{Open};
 ghost use Rattle.std.specs.List.{AllByRecursion};
 ghost use Rattle.model.specs.Words.{branch_of, base_of, recorded};
@@ -11,8 +12,10 @@ ghost use Rattle.propagation.specs.Filtered.{Lives, Dies};
 ghost use Rattle.propagation.specs.Benches.{Roomy, Beyond};
 ghost use Rattle.search.specs.Counts.{Counted};
 ghost use Rattle.search.specs.Regions.{SameRegions};
+ghost use Rattle.search.specs.Families.{Keeps, Remembers};
 ghost use Rattle.search.specs.Turns.{state_of, Fit, DueAt, DeadTurn, AliveTurn, KeptWords, Fresh, Turned};
 
+use crate::befores::Befores;
 use crate::held::Progress;
 use crate::moves::{close, decide, restart, some_wide};
 use crate::regions::Regions;
@@ -43,7 +46,17 @@ pub(crate) enum Step {
 }
 
 // A turn in a dead state, with `left` moves to go.
-fn turn_dead<O: Order>(order: &mut O, left: u32, at: &mut Progress, branch: &mut [u32]) -> Step
+fn turn_dead<O: Order>(
+    order: &mut O,
+    left: u32,
+    at: &mut Progress,
+    domains: &mut [u64],
+    branch: &mut [u32],
+    befores: &mut Befores,
+) -> Step
+    requires few { length domains.old ≤ 200 }
+    requires grouped { (i : ℕ) → i < at.old.branch_len → slice_index branch.old i < 65536 → slice_index branch.old i / 64 < 200 }
+    requires unready { befores.old.ready ≡ false }
     requires within { at.old.branch_len ≤ length branch.old }
     requires short { at.old.branch_len ≤ 12800 }
     requires counted { Counted left at.old }
@@ -51,6 +64,7 @@ fn turn_dead<O: Order>(order: &mut O, left: u32, at: &mut Progress, branch: &mut
     ensures used { at.new.base_used ≡ at.old.base_used }
     ensures shorter { at.new.branch_len ≤ at.old.branch_len }
     ensures past { drop at.old.branch_len branch.new ≡ drop at.old.branch_len branch.old }
+    ensures remembers { (lists : List ℕ) (book : Meaning) (base ds : List ℕ) → length lists ≡ length domains.old → take (length lists) ds ≡ domains.new → Keeps lists book at.old branch.old base befores.old → Remembers lists book at.new branch.new base ds befores.new }
 {
     let Some(last) = last_taken(&branch[..at.branch_len as usize]) else {
         return Step::None;
@@ -60,6 +74,7 @@ fn turn_dead<O: Order>(order: &mut O, left: u32, at: &mut Progress, branch: &mut
     }
     let group = close(at, branch, last);
     order.told(group);
+    befores.back(group, last as u16, domains);
     Step::Made(Move::Close)
 }
 
@@ -85,8 +100,10 @@ fn turn_alive<O: Order, P: RestartPolicy>(
     branch: &mut [u32],
     base: &mut [u32],
     links: &mut Links,
+    befores: &mut Befores,
 ) -> Step
     requires few { length domains.now ≤ 200 }
+    requires unready { befores.old.ready ≡ false }
     requires within { at.old.branch_len ≤ 64 * length domains.now }
     requires room { 64 * length domains.now ≤ length branch.old }
     requires spare { ((g : ℕ) × Open domains.now g) → at.old.branch_len < 64 * length domains.now }
@@ -104,6 +121,7 @@ fn turn_alive<O: Order, P: RestartPolicy>(
     ensures known { Knows (take at.new.base_used base.new) links.new.index }
     ensures wires { links.new.wires ≡ links.old.wires }
     ensures spreads { links.new.spreads ≡ links.old.spreads }
+    ensures remembers { (lists : List ℕ) (book : Meaning) (ds : List ℕ) → length lists ≡ length domains.now → take (length lists) ds ≡ domains.now → Lives lists book (base_of (take at.old.base_used base.old)) (branch_of branch.old at.old.branch_len) domains.now → Keeps lists book at.old branch.old base.old befores.old → Remembers lists book at.new branch.new base.new ds befores.new }
 {
     if !some_wide(domains) {
         return Step::Plan;
@@ -115,9 +133,12 @@ fn turn_alive<O: Order, P: RestartPolicy>(
         let used = at.base_used as usize;
         restart(policy, at, branch, base);
         links.add(&base[..at.base_used as usize], used);
+        befores.clear();
         return Step::Made(Move::Restart);
     }
-    decide(order, at, domains, branch);
+    let place = at.branch_len as u16;
+    let group = decide(order, at, domains, branch);
+    befores.keep(group, place, domains);
     Step::Made(Move::Decide)
 }
 
@@ -136,10 +157,10 @@ pub(crate) fn links_of<B: RuleBook>(book: &B, at: &Progress, base: &[u32]) -> Li
     links
 }
 
-// What remains in the state that the numbers and the words stand for, unless it is dead; after a decision, from what remained before it.
+// What remains in the state that the numbers and the words stand for, unless it is dead; where that is at hand, from what remained before the newest decision.
 // It takes the four regions one by one: with the bench made in `turn` the proof does not close.
 fn refresh<B: RuleBook>(
-    last: Option<Move>,
+    ready: bool,
     lists: &[u64],
     book: &B,
     at: &Progress,
@@ -156,7 +177,7 @@ fn refresh<B: RuleBook>(
     requires rules { (B.meaning book.now).count ≤ 4096 }
     requires roomy { Roomy (length lists.now) (B.meaning book.now).count (length domains.old) (length marks.old) (length ends.old) (length settled.old) }
     requires linked { Linked (B.meaning book.now) (take at.now.base_used base.now) links.now }
-    requires fresh { last ≡ Some Move.Decide → Fresh lists.now (B.meaning book.now) at.now branch.now base.now domains.old }
+    requires fresh { ready ≡ true → Fresh lists.now (B.meaning book.now) at.now branch.now base.now domains.old }
     ensures dead { OnErr result (Dies lists.now (B.meaning book.now) (base_of (take at.now.base_used base.now)) (branch_of branch.now at.now.branch_len)) }
     ensures lives { OnOk result (Lives lists.now (B.meaning book.now) (base_of (take at.now.base_used base.now)) (branch_of branch.now at.now.branch_len) (take (length lists.now) domains.new)) }
     ensures beyond { Beyond (length lists.now) (B.meaning book.now).count domains.old domains.new marks.old marks.new ends.old ends.new settled.old settled.new }
@@ -170,15 +191,15 @@ fn refresh<B: RuleBook>(
         settled,
     };
     // Two calls with the same arguments, of which a closure would say no more.
-    match last {
-        Some(Move::Decide) => propagate_decision(lists, book, branch, base, links, &mut bench),
-        _ => propagate(lists, book, branch, base, links, &mut bench),
+    if ready {
+        propagate_decision(lists, book, branch, base, links, &mut bench)
+    } else {
+        propagate(lists, book, branch, base, links, &mut bench)
     }
 }
 
-// One turn, with `left` moves to go, after the last move that was made. Lists and book, order and policy come apart, as in `sitting`.
+// One turn, with `left` moves to go. Lists and book, order and policy come apart, as in `sitting`.
 pub(crate) fn turn<B: RuleBook, O: Order, P: RestartPolicy>(
-    last: Option<Move>,
     lists: &[u64],
     book: &B,
     order: &mut O,
@@ -186,6 +207,7 @@ pub(crate) fn turn<B: RuleBook, O: Order, P: RestartPolicy>(
     left: u32,
     at: &mut Progress,
     links: &mut Links,
+    befores: &mut Befores,
     regions: &mut Regions<'_>,
 ) -> Step
     requires fit { Fit lists.now at.old regions.old.branch.now regions.old.base.now }
@@ -194,12 +216,12 @@ pub(crate) fn turn<B: RuleBook, O: Order, P: RestartPolicy>(
     requires rules { (B.RuleBook.meaning book.now).count ≤ 4096 }
     requires roomy { Roomy (length lists.now) (B.RuleBook.meaning book.now).count (length regions.old.domains.now) (length regions.old.marks.now) (length regions.old.ends.now) (length regions.old.settled.now) }
     requires linked { Linked (B.RuleBook.meaning book.now) (take at.old.base_used regions.old.base.now) links.old }
-    requires fresh { last ≡ Some Move.Decide → Fresh lists.now (B.RuleBook.meaning book.now) at.old regions.old.branch.now regions.old.base.now regions.old.domains.now }
+    requires remembers { Remembers lists.now (B.RuleBook.meaning book.now) at.old regions.old.branch.now regions.old.base.now regions.old.domains.now befores.old }
     ensures same { SameRegions regions.old regions.new }
     ensures turned { Turned lists.now (B.RuleBook.meaning book.now) O.Order.meaning P.RestartPolicy.meaning (length regions.old.base.now) left (take (length lists.now) regions.new.domains.now) (O.Order.held order.old) (O.Order.held order.new) (P.RestartPolicy.held policy.old) (P.RestartPolicy.held policy.new) (state_of at.old regions.old.branch.now regions.old.base.now) (state_of at.new regions.new.branch.now regions.new.base.now) result }
     ensures fit { Fit lists.now at.new regions.new.branch.now regions.new.base.now }
     ensures linked { Linked (B.RuleBook.meaning book.now) (take at.new.base_used regions.new.base.now) links.new }
-    ensures fresh { result ≡ Step.Made Move.Decide → Fresh lists.now (B.RuleBook.meaning book.now) at.new regions.new.branch.now regions.new.base.now regions.new.domains.now }
+    ensures remembers { Remembers lists.now (B.RuleBook.meaning book.now) at.new regions.new.branch.now regions.new.base.now regions.new.domains.now befores.new }
     ensures beyond { Beyond (length lists.now) (B.RuleBook.meaning book.now).count regions.old.domains.now regions.new.domains.now regions.old.marks.now regions.new.marks.now regions.old.ends.now regions.new.ends.now regions.old.settled.now regions.new.settled.now }
     ensures kept { KeptWords (length lists.now) at.old.base_used at.new.base_used regions.old.branch.now regions.new.branch.now regions.old.base.now regions.new.base.now }
     ensures plan { regions.new.plan.now ≡ regions.old.plan.now }
@@ -207,8 +229,10 @@ pub(crate) fn turn<B: RuleBook, O: Order, P: RestartPolicy>(
     let branch = &mut *regions.branch;
     let base = &mut *regions.base;
     let domains = &mut *regions.domains;
+    let ready = befores.ready;
+    befores.ready = false;
     let remains = refresh(
-        last,
+        ready,
         lists,
         book,
         at,
@@ -221,8 +245,17 @@ pub(crate) fn turn<B: RuleBook, O: Order, P: RestartPolicy>(
         regions.settled,
     );
     if let Err(Dead) = remains {
-        return turn_dead(order, left, at, branch);
+        return turn_dead(
+            order,
+            left,
+            at,
+            &mut domains[..lists.len()],
+            branch,
+            befores,
+        );
     }
     let (remain, _) = domains.split_at(lists.len());
-    turn_alive(order, policy, left, at, remain, branch, base, links)
+    turn_alive(
+        order, policy, left, at, remain, branch, base, links, befores,
+    )
 }

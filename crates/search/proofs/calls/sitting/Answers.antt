@@ -1,4 +1,4 @@
-use Rattle.std.proofs.Common.{◌≡◌, ℕ, ◌^◌, ◌<◌, ◌≤◌, List, [], length, get_or, take, drop, Some, sym, refl, ap, ◌∙◌, subst, inl, inr, rules, arith}
+use Rattle.std.proofs.Common.{◌≡◌, ℕ, ◌^◌, ◌<◌, ◌≤◌, List, [], length, get_or, take, drop, sym, refl, ap, ◌∙◌, subst, inl, inr, rules, arith}
 use lib.Count.{count_trailing_zeros}
 use Rattle.std.proofs.lemmas.List.{length-take-le, get_or-take}
 use Rattle.model.specs.Moves.{State}
@@ -12,6 +12,7 @@ use Rattle.search.specs.Regions.{sizes}
 use Rattle.search.proofs.Ready.{ready}
 use Rattle.search.proofs.Fronts.{small_base}
 use Rattle.search.proofs.Along.{at, along_more, comes, settles, found_open, held_bounds, same_then, single}
+use Rattle.search.proofs.Remembering.{remembers_none}
 use Rattle.search.proofs.calls.sitting.Goals as goal
 
 pub moves-init : goal.moves-init
@@ -26,7 +27,6 @@ moves-init g c =
         onward = λ v u sits. sits;
         counted = r.counted;
         fit = r.fit;
-        fresh = λ e. search rules;
         beyond = record { domains = refl; marks = refl; ends = refl; settled = refl };
         kept = record { branch = refl; grown = omega arith; base = refl };
         room = refl;
@@ -34,6 +34,7 @@ moves-init g c =
       },
       search rules,
       c.links_of-links.ensures,
+      remembers_none c.args.lists.now (g.B.RuleBook.meaning c.args.book.now) _ _ _ _ _ c.new-befores.ensures.none c.new-befores.ensures.unready,
     )
 
 pub links_of-links-requires : goal.links_of-links-requires
@@ -67,7 +68,7 @@ turn-requires g c =
         settled = omega (arith, r.roomy.settled, k.settled_size);
       };
       linked = c.moves.invariant.2;
-      fresh = i.fresh;
+      remembers = c.moves.invariant.3;
     }
 
 pub moves-preserved : goal.moves-preserved
@@ -78,10 +79,11 @@ moves-preserved g c =
     let here = lent_in c.moves.regions c.moves.order c.moves.policy in
     let next = lent_in c.turn.new.regions c.turn.new.order c.turn.new.policy in (
       along_more g.O.Order.meaning g.P.RestartPolicy.meaning g.O.Order.held g.P.RestartPolicy.held (g.B.RuleBook.meaning c.args.book.now) lists c.args.allowance c.args.search.at found
-          c.moves.left c.moves.last (Some c.in-Made.made) c.moves.at c.turn.new.at here next (take (length lists) c.turn.new.regions.domains.now) c.moves.invariant.0
-          e.turned e.fit (λ q. e.fresh (search rules)) e.beyond e.kept e.plan e.same.base_size,
+          c.moves.left c.moves.at c.turn.new.at here next (take (length lists) c.turn.new.regions.domains.now) c.moves.invariant.0
+          e.turned e.fit e.beyond e.kept e.plan e.same.base_size,
       same_then c.args.regions.now c.moves.regions c.turn.new.regions c.moves.invariant.1 e.same,
       e.linked,
+      e.remembers,
     )
 
 pub returns-in-None-clause-answers : goal.returns-in-None-clause-answers
@@ -95,7 +97,7 @@ returns-in-None-clause-answers g c =
     let next = lent_in c.turn.new.regions c.turn.new.order c.turn.new.policy in (
       settles g.O.Order.meaning g.P.RestartPolicy.meaning g.O.Order.held g.P.RestartPolicy.held (g.B.RuleBook.meaning c.args.book.now) c.args.search lists c.args.allowance found next none _
           (comes g.O.Order.meaning g.met.O.Order.lawful g.P.RestartPolicy.meaning g.met.P.RestartPolicy.lawful g.O.Order.held g.P.RestartPolicy.held (g.B.RuleBook.meaning c.args.book.now) (g.B.RuleBook.lawful c.args.book.now)
-          c.args.search lists c.args.allowance found c.in_default.ensures c.moves.left c.moves.last c.moves.at c.turn.new.at here next none i
+          c.args.search lists c.args.allowance found c.in_default.ensures c.moves.left c.moves.at c.turn.new.at here next none i
           t.0.state t.0.order t.0.policy (ends_none t.1.0 t.1.1 t.1.2 t.2) (inr t.1) e.fit e.beyond e.kept),
       e.plan ∙ i.plan,
     )
@@ -123,7 +125,7 @@ returns-in-Spent-clause-answers g c =
     let stops : Sits lists book (behaviour g.O.Order.meaning (g.O.Order.held c.args.order.now)) (cutoffs g.P.RestartPolicy.meaning (g.P.RestartPolicy.held c.args.policy.now)) (length c.args.regions.now.base.now) c.moves.left here-at unsettled here-at =
     subst (λ (k : ℕ). Sits lists book (behaviour g.O.Order.meaning (g.O.Order.held c.args.order.now)) (cutoffs g.P.RestartPolicy.meaning (g.P.RestartPolicy.held c.args.policy.now)) (length c.args.regions.now.base.now) k here-at unsettled here-at) (sym t.1) (spent t.2) in
     let r = comes g.O.Order.meaning g.met.O.Order.lawful g.P.RestartPolicy.meaning g.met.P.RestartPolicy.lawful g.O.Order.held g.P.RestartPolicy.held (g.B.RuleBook.meaning c.args.book.now) (g.B.RuleBook.lawful c.args.book.now)
-    c.args.search lists c.args.allowance found c.in_default.ensures c.moves.left c.moves.last c.moves.at c.turn.new.at here next unsettled i
+    c.args.search lists c.args.allowance found c.in_default.ensures c.moves.left c.moves.at c.turn.new.at here next unsettled i
     t.0.state t.0.order t.0.policy stops t.3 e.fit e.beyond e.kept in
     record {
       comes = r;
@@ -162,7 +164,7 @@ returns-in-Plan-clause-answers g c =
     (λ k l. get_or-take (length lists) xs k 64 l ∙ w.written k (omega (arith, size)) ∙ ap (λ (ms : List ℕ). count_trailing_zeros 64 (get_or ms k 0)) cut) in (
       settles g.O.Order.meaning g.P.RestartPolicy.meaning g.O.Order.held g.P.RestartPolicy.held (g.B.RuleBook.meaning c.args.book.now) c.args.search lists c.args.allowance found _ (plan (take (length lists) xs)) _
           (comes g.O.Order.meaning g.met.O.Order.lawful g.P.RestartPolicy.meaning g.met.P.RestartPolicy.lawful g.O.Order.held g.P.RestartPolicy.held (g.B.RuleBook.meaning c.args.book.now) (g.B.RuleBook.lawful c.args.book.now)
-          c.args.search lists c.args.allowance found c.in_default.ensures c.moves.left c.moves.last c.moves.at c.turn.new.at here _ (plan (take (length lists) xs)) i
+          c.args.search lists c.args.allowance found c.in_default.ensures c.moves.left c.moves.at c.turn.new.at here _ (plan (take (length lists) xs)) i
           t.0.state t.0.order t.0.policy (ends_plan masks t.1 (take (length lists) xs) (length-take-le (length lists) xs roomy) one) (inl t.1) e.fit e.beyond e.kept),
       subst (λ (k : ℕ). drop k xs ≡ drop k c.turn.new.regions.plan.now) size w.beyond ∙ ap (drop (length lists)) (e.plan ∙ i.plan),
     )

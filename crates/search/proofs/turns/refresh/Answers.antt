@@ -1,9 +1,8 @@
-use Rattle.std.proofs.Common.{◌≡◌, ◌-◌, ◌<◌, ◌≤◌, length, take, Some, OnErr, sym, ap, ◌∙◌, subst, rules, arith}
+use Rattle.std.proofs.Common.{◌≡◌, ◌-◌, ◌<◌, ◌≤◌, length, take, OnErr, sym, ap, ◌∙◌, subst, rules, arith}
 use Rattle.model.specs.Masks.{grp}
 use Rattle.model.specs.Decisions.{word}
 use Rattle.model.specs.Words.{decision, branch_of, base_of}
 use Rattle.propagation.specs.Filtered.{Lives, Dies}
-use Rattle.search.specs.declared.turns.Move.TheVariants.{Decide}
 use Rattle.search.proofs.Fronts.{front_length, front_word, front_branch, whole_branch, listed_word, all_grouped}
 use Rattle.search.proofs.turns.refresh.Goals as goal
 
@@ -14,8 +13,7 @@ propagate_decision-requires-clause-before g c =
     let p = c.args.at.now in
     let n = p.branch_len in
     let f = c.requires.fit in
-    let made : c.args.last ≡ Some Decide = search rules in
-    let fresh = c.requires.fresh made in
+    let fresh = c.requires.fresh c.if-ready.true in
     let some = fresh.some in
     let inside : n ≤ length ws = omega (arith, f.branch_in, f.branch_room) in
     let before : branch_of (take n ws) (length (take n ws) - 1) ≡ branch_of ws (n - 1) = ap (λ k. branch_of (take n ws) (k - 1)) (front_length ws n inside) ∙ front_branch ws n inside (n - 1) (omega arith) in
@@ -36,26 +34,26 @@ pub propagate-requires-clause-grouped : goal.propagate-requires-clause-grouped
 propagate-requires-clause-grouped g c = all_grouped c.args.lists.now _ c.requires.fit.nogoods
 
 -- The answers speak of the first words of the branch as a slice, which stand for the same branch.
-pub returns-in-Some-Decide-clause-dead : goal.returns-in-Some-Decide-clause-dead
-returns-in-Some-Decide-clause-dead g c =
+pub returns-then-ready-clause-dead : goal.returns-then-ready-clause-dead
+returns-then-ready-clause-dead g c =
     let p = c.args.at.now in
     let f = c.requires.fit in
     subst (λ ds. OnErr c.propagate_decision.result (Dies c.args.lists.now (g.B.RuleBook.meaning c.args.book.now) (base_of (take p.base_used c.args.base.now)) ds))
     (whole_branch c.args.branch.now p.branch_len (omega (arith, f.branch_in, f.branch_room))) c.propagate_decision.ensures.dead
 
-pub returns-in_default-clause-dead : goal.returns-in_default-clause-dead
-returns-in_default-clause-dead g c =
+pub returns-else-ready-clause-dead : goal.returns-else-ready-clause-dead
+returns-else-ready-clause-dead g c =
     let p = c.args.at.now in
     let f = c.requires.fit in
     subst (λ ds. OnErr c.propagate.result (Dies c.args.lists.now (g.B.RuleBook.meaning c.args.book.now) (base_of (take p.base_used c.args.base.now)) ds))
     (whole_branch c.args.branch.now p.branch_len (omega (arith, f.branch_in, f.branch_room))) c.propagate.ensures.dead
 
-pub returns-in-Some-Decide-clause-lives : goal.returns-in-Some-Decide-clause-lives
-returns-in-Some-Decide-clause-lives g c =
+pub returns-then-ready-clause-lives : goal.returns-then-ready-clause-lives
+returns-then-ready-clause-lives g c =
     let f = c.requires.fit in
     rw (sym (whole_branch c.args.branch.now c.args.at.now.branch_len (omega (arith, f.branch_in, f.branch_room)))) (search rules)
 
-pub returns-in_default-clause-lives : goal.returns-in_default-clause-lives
-returns-in_default-clause-lives g c =
+pub returns-else-ready-clause-lives : goal.returns-else-ready-clause-lives
+returns-else-ready-clause-lives g c =
     let f = c.requires.fit in
     rw (sym (whole_branch c.args.branch.now c.args.at.now.branch_len (omega (arith, f.branch_in, f.branch_room)))) (search rules)

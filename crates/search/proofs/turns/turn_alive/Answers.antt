@@ -7,6 +7,9 @@ use Rattle.propagation.specs.Bases.{Grouped}
 use Rattle.propagation.specs.Indexed.{Knows}
 use Rattle.search.specs.Turns.{state_of, decided_at}
 use Rattle.search.proofs.States.{all_words, restarting_state, restarted_words, restarted_base, past_words, deciding_state, past_set}
+use Rattle.propagation.specs.Filtered.{Lives}
+use Rattle.search.specs.Families.{kept}
+use Rattle.search.proofs.Remembering.{remembers_none, remembers_decided}
 use Rattle.search.proofs.turns.turn_alive.Goals as goal
 
 pub restart-requires : goal.restart-requires
@@ -77,6 +80,7 @@ returns-then-is_due g c =
       known = c.add.ensures.known;
       wires = c.add.ensures.wires;
       spreads = c.add.ensures.spreads;
+      remembers = λ lists book ds size cut lives keeps. remembers_none lists book _ _ _ _ _ c.clear.ensures.none c.clear.ensures.unready;
     }
 
 pub returns : goal.returns
@@ -84,11 +88,11 @@ returns g c =
     let p = c.args.at.now in
     let ws = c.args.branch.now in
     let bs = c.args.base.now in
-    let d = c.decide.ensures.decides in
+    let d = c.decide-group.ensures.decides in
     let wide = c.if-not-some_wide.ensures.yes refl in
     let spare = c.requires.spare wide in
-    let used : c.decide.new.at.base_used ≡ p.base_used = ap (λ (q : Progress). q.base_used) d.numbers in
-    let len : c.decide.new.at.branch_len ≡ p.branch_len + 1 = ap (λ (q : Progress). q.branch_len) d.numbers in
+    let used : c.decide-group.new.at.base_used ≡ p.base_used = ap (λ (q : Progress). q.base_used) d.numbers in
+    let len : c.decide-group.new.at.branch_len ≡ p.branch_len + 1 = ap (λ (q : Progress). q.branch_len) d.numbers in
     record {
       turn = (
         omega arith,
@@ -99,7 +103,7 @@ returns g c =
           channel = d.channel;
           grouped = d.grouped;
           channeled = d.channeled;
-          state = ap (λ (q : Progress). state_of q c.decide.new.branch bs) d.numbers ∙ ap (λ xs. state_of (decided_at p) xs bs) d.words ∙ deciding_state p ws bs (64 * d.group + d.channel) (omega arith) d.small;
+          state = ap (λ (q : Progress). state_of q c.decide-group.new.branch bs) d.numbers ∙ ap (λ xs. state_of (decided_at p) xs bs) d.words ∙ deciding_state p ws bs (64 * d.group + d.channel) (omega arith) d.small;
           order = d.after;
           policy = refl;
         },
@@ -108,11 +112,17 @@ returns g c =
       used = omega arith;
       words = ap (λ k. take k bs) used ∙ c.requires.words ∙ ap (λ k. recorded (base_of (take k bs))) (sym used);
       kept = record {
-        branch = past_set (64 * length c.args.domains.now) p.branch_len _ ws c.decide.new.branch spare d.words;
+        branch = past_set (64 * length c.args.domains.now) p.branch_len _ ws c.decide-group.new.branch spare d.words;
         grown = omega arith;
         base = refl;
       };
       known = subst (λ k. Knows (take k bs) c.args.links.now.index) (sym used) c.requires.known;
       wires = refl;
       spreads = refl;
+      remembers = λ lists book ds size cut lives keeps.
+          let x = c.decide-group.result in
+          let k = c.keep.ensures in
+          let b' = c.keep.new.self in
+          remembers_decided lists book p c.decide-group.new.at ws c.decide-group.new.branch bs ds c.args.befores.now b' x _ (omega (arith, size, c.requires.few)) d.numbers d.words keeps
+          (subst (Lives lists book (base_of (take p.base_used bs)) (branch_of ws p.branch_len)) (sym cut) lives) k.at (ap (λ n. kept n b' x) size ∙ k.kept ∙ sym cut) k.others;
     }

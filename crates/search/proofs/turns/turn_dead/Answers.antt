@@ -1,9 +1,11 @@
-use Rattle.std.proofs.Common.{sym, refl, ap, ◌∙◌, arith}
+use Rattle.std.proofs.Common.{◌<◌, sym, refl, ap, ◌∙◌, arith}
 use Rattle.model.specs.Decisions.{takens}
 use Rattle.search.specs.declared.held.Progress.{Progress}
 use Rattle.search.specs.Turns.{state_of, closed_at}
 use Rattle.search.proofs.Fronts.{whole_branch, front_last}
 use Rattle.search.proofs.States.{closing_state, blamed_last, last_some, past_set}
+use Rattle.search.specs.Families.{kept}
+use Rattle.search.proofs.Remembering.{remembers_closed}
 use Rattle.search.proofs.turns.turn_dead.Goals as goal
 
 pub returns-in_default-clause-turn : goal.returns-in_default-clause-turn
@@ -34,3 +36,16 @@ pub returns-clause-past : goal.returns-clause-past
 returns-clause-past g c =
     let l = front_last c.args.branch.now c.args.at.now.branch_len c.requires.within c.in-Some.last c.in-Some.ensures in
     past_set c.args.at.now.branch_len c.in-Some.last _ c.args.branch.now c.close-group.new.branch l.within c.close-group.ensures.words
+
+pub returns-clause-remembers : goal.returns-clause-remembers
+returns-clause-remembers g c = λ lists book base ds size cut keeps.
+    let p = c.args.at.now in
+    let ws = c.args.branch.now in
+    let last = c.in-Some.last in
+    let b = c.args.befores.now in
+    let x = c.close-group.result in
+    let l = front_last ws p.branch_len c.requires.within last c.in-Some.ensures in
+    let e = c.close-group.ensures in
+    let here : x < 200 = omega (arith, c.requires.grouped last l.within l.taken, e.group) in
+    remembers_closed lists book p c.close-group.new.at ws c.close-group.new.branch base ds b c.back.new.self x last _ here e.numbers e.words keeps
+    (λ r. let t = c.back.ensures.ready r in (t.0, cut ∙ t.1 ∙ ap (λ n. kept n b x) (sym size))) c.back.ensures.fewer c.back.ensures.kept

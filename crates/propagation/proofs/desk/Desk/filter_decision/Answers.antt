@@ -1,10 +1,7 @@
-use Rattle.std.proofs.Common.{◌≡◌, ℕ, ◌-◌, ◌/◌, ◌%◌, ◌^◌, ◌<◌, ◌&&◌, eqb, length, get_or, set, sym, ◌∙◌, subst, arith}
+use Rattle.std.proofs.Common.{◌≡◌, ℕ, ◌-◌, ◌^◌, ◌<◌, length, get_or, sym, ◌∙◌, arith}
 use Rattle.std.proofs.lemmas.Result.{on_err_weaker}
-use Rattle.rules.specs.Channels.{has}
 use Rattle.model.specs.Words.{base_of, branch_of}
-use Rattle.model.specs.Remains.{Family, family}
-use Rattle.propagation.specs.Supports.{Inside}
-use Rattle.propagation.specs.Calms.{Agrees}
+use Rattle.model.specs.Remains.{family}
 use Rattle.propagation.proofs.Filtering.{agrees_of, doomed, doomed_dies, lives, on_ok_three}
 use Rattle.propagation.proofs.Deciding.{decided_carries, decided_inside, decided_obeys}
 use Rattle.propagation.proofs.desk.Desk.filter_decision.Goals as goal
