@@ -7,8 +7,6 @@ use Rattle.std.proofs.lemmas.Bool.{both_ways, cases_eq, cases_Bool}
 use Rattle.rules.specs.Channels.{has}
 use Rattle.rules.specs.Takings.{TakesOne}
 use Rattle.rules.specs.declared.bits.Channels.{Channels}
-use Rattle.rules.specs.Meanings.{Meaning}
-use Rattle.rules.specs.Supports.{Backed}
 use Rattle.rules.proofs.Digits.{Cut, cut_inside, cut_other, cut_stays, has_none}
 
 abbrev pub takes : Channels → Option ℕ → Channels → Type 0
@@ -44,30 +42,30 @@ module _ {F : Type 0} (g : Mut F (ℕ × Unit {0}) Bool) (f : F) (p : ℕ → Bo
           let a = acts x true e.1.0 (subst (λ (i : F). Called g i (x, tt) true e.1.0) w.0 e.1.1) in
           (λ _. (x, left_there xs s t ys x z.1, sym a.1), λ _. e.0)
 
--- What is kept of a set, of which the channels of todo are still to be looked at.
-module _ (m : Meaning) (i : ℕ) (s : Bool) (set across : ℕ) where
+-- What is kept of a set, of which the channels of todo are still to be looked at, where the channels with P stay.
+module _ (P : ℕ → Type 0) (set : ℕ) where
   pub record Keeping (rest todo : ℕ) : Type 0 where
     pub inside : (j : ℕ) → has rest j ≡ true → has set j ≡ true
-    pub done : (j : ℕ) → has todo j ≡ false → has rest j ≡ true → Backed m i s across j
-    pub all : (j : ℕ) → has set j ≡ true → Backed m i s across j → has rest j ≡ true
+    pub done : (j : ℕ) → has todo j ≡ false → has rest j ≡ true → P j
+    pub all : (j : ℕ) → has set j ≡ true → P j → has rest j ≡ true
 
   module _ (rest todo a todo' : ℕ) (k : Keeping rest todo) (cut : Cut todo a todo') where
-    later : (j : ℕ) → (j ≡ a → ⊥) → has todo' j ≡ false → has rest j ≡ true → Backed m i s across j
+    later : (j : ℕ) → (j ≡ a → ⊥) → has todo' j ≡ false → has rest j ≡ true → P j
     later j d n h = elim (cases_Bool (has todo j)) [
       | inl y ↦ absurd (both_ways (has todo' j) n (cut_stays todo a todo' cut j y d))
       | inr y ↦ k.done j y h
     ]
 
-    pub keeping_on : Backed m i s across a → Keeping rest todo'
+    pub keeping_on : P a → Keeping rest todo'
     keeping_on b = record {
       inside = k.inside;
-      done = λ j n h. elim (cases_eq j a) [ inl q ↦ subst (Backed m i s across) (sym q) b | inr d ↦ later j d n h ];
+      done = λ j n h. elim (cases_eq j a) [ inl q ↦ subst P (sym q) b | inr d ↦ later j d n h ];
       all = k.all;
     }
 
-    pub keeping_less : (rest' : ℕ) → (Backed m i s across a → ⊥) → Cut rest a rest' → Keeping rest' todo'
+    pub keeping_less : (rest' : ℕ) → (P a → ⊥) → Cut rest a rest' → Keeping rest' todo'
     keeping_less rest' b less = record {
       inside = λ j h. k.inside j (cut_inside rest a rest' less j h);
       done = λ j n h. later j (cut_other rest a rest' less j h) n (cut_inside rest a rest' less j h);
-      all = λ j h t. cut_stays rest a rest' less j (k.all j h t) (λ q. b (subst (Backed m i s across) q t));
+      all = λ j h t. cut_stays rest a rest' less j (k.all j h t) (λ q. b (subst P q t));
     }

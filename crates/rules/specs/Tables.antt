@@ -1,5 +1,5 @@
 -- What a table book stands for. Assumes nothing.
-use Rattle.std.specs.Prelude.{ℕ, zero, suc, ◌+◌, ◌*◌, List, length, nat_le, slice_index, slice_index_or}
+use Rattle.std.specs.Prelude.{◌≡◌, true, ℕ, zero, suc, ◌+◌, ◌*◌, List, length, nat_le, slice_index, slice_index_or}
 use Rattle.rules.specs.Meanings.{Meaning, Lawful, listed}
 use Rattle.rules.specs.Listed.{listed_lawful}
 use Rattle.rules.specs.Channels.{has}
@@ -16,6 +16,14 @@ no_table = record { first = 0; second = 0; offset = 0 }
 -- row a of 64 bits, of the 64 rows at an offset
 abbrev pub row : List ℕ → ℕ → ℕ → ℕ
 row bs o a = number bs (o + 8 * a) 8
+
+-- The row of a channel has some channel of a set.
+abbrev pub Meets : List ℕ → ℕ → ℕ → ℕ → Type 0
+Meets bs o across a = (b : ℕ) × (has across b ≡ true) × (has (row bs o a) b ≡ true)
+
+-- A channel is in the row of some channel of a set.
+abbrev pub Reached : List ℕ → ℕ → ℕ → ℕ → Type 0
+Reached bs o across b = (a : ℕ) × (has across a ≡ true) × (has (row bs o a) b ≡ true)
 
 abbrev pub tables : ℕ → List ℕ → List TableEntry → Meaning
 tables n bs es = listed n (length es)
