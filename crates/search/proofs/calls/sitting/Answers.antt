@@ -34,6 +34,7 @@ moves-init g c =
       },
       search rules,
       c.links_of-links.ensures,
+      λ q. refl,
     )
 
 pub links_of-links-requires : goal.links_of-links-requires
@@ -82,6 +83,7 @@ moves-preserved g c =
           e.turned e.fit (λ q. e.fresh (search rules)) e.beyond e.kept e.plan e.same.base_size,
       same_then c.args.regions.now c.moves.regions c.turn.new.regions c.moves.invariant.1 e.same,
       e.linked,
+      λ q. let z : ◌≡◌ {A = ℕ} 0 1 = cc in omega arith,
     )
 
 pub returns-in-None-clause-answers : goal.returns-in-None-clause-answers

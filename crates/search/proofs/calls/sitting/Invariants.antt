@@ -1,4 +1,4 @@
-use Rattle.std.proofs.Common.{take}
+use Rattle.std.proofs.Common.{◌≡◌, take, None}
 use Rattle.propagation.specs.Links.{Linked}
 use Rattle.search.specs.Regions.{SameRegions}
 use Rattle.search.specs.Sittings.{lent_in}
@@ -10,6 +10,7 @@ invariant-moves g l =
     Along g.O.Order.meaning g.P.RestartPolicy.meaning g.O.Order.held g.P.RestartPolicy.held (g.B.RuleBook.meaning l.book) l.lists l.allowance l.initial.at
     (lent_in l.initial.regions l.initial.order l.initial.policy) l.left l.last l.at (lent_in l.regions l.order l.policy)
     × SameRegions l.initial.regions l.regions × Linked (g.B.RuleBook.meaning l.book) (take l.at.base_used l.regions.base.now) l.links
+    × (l.last ≡ None → l.left ≡ l.allowance)
 
 abbrev pub decreases-moves : goal.decreases-moves
 decreases-moves g l = l.left
