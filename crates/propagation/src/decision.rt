@@ -4,8 +4,8 @@ ghost use Rattle.std.specs.List.{AllByRecursion};
 ghost use Rattle.rules.specs.Channels.{has};
 ghost use Rattle.model.specs.Masks.{grp};
 ghost use Rattle.model.specs.Words.{base_of, branch_of};
-ghost use Rattle.model.specs.Remains.{Family, family, Alive};
-ghost use Rattle.propagation.specs.Supports.{Inside};
+ghost use Rattle.model.specs.Remains.{family, Alive};
+ghost use Rattle.propagation.specs.Supports.{Inside, StillWithin};
 ghost use Rattle.propagation.specs.Settling.{Emptied};
 ghost use Rattle.propagation.specs.Desks.{SameDesk, Small, Laid};
 ghost use Rattle.propagation.specs.Bases.{Grouped};
@@ -31,7 +31,7 @@ impl<'d, B: RuleBook> Desk<'d, B> {
         requires group { g < length self.old.domains.now }
         requires inside { (j : ℕ) → has keeps j ≡ true → has (slice_index self.old.domains.now g) j ≡ true }
         ensures same { SameDesk self.old self.new }
-        ensures within { (k : Family) → Agrees (B.meaning self.old.book.now) (base_of self.old.base.now) k → Inside k (family (slice_set self.old.domains.now g keeps)) → Inside k (family self.new.domains.now) }
+        ensures within { StillWithin (Agrees (B.meaning self.old.book.now) (base_of self.old.base.now)) (slice_set self.old.domains.now g keeps) self.new.domains.now }
         ensures dead { OnErr result (Emptied self.new.domains.now) }
         ensures inside { OnOk result (Inside (family self.new.domains.now) (family (slice_set self.old.domains.now g keeps))) }
         ensures alive { OnOk result (Alive self.new.domains.now (family self.new.domains.now)) }
