@@ -38,7 +38,7 @@ pub fn prepare(lists: &[u64], branch: &[u32], domains: &mut [u64]) -> Result<(),
 }
 
 impl<'d, B: RuleBook> Desk<'d, B> {
-    // The rules and the nogoods, with every rule end in line at first.
+    // The rules and the nogoods, with the ends across from narrow groups in line at first.
     pub fn run(&mut self) -> Result<(), Dead>
         requires laid { Laid (B.meaning self.old.book.now) self.old }
         requires alive { Alive self.old.domains.now (family self.old.domains.now) }

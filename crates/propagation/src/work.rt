@@ -1,8 +1,9 @@
 // Takes what waits, until nothing does.
-ghost use Rattle.std.specs.Prelude.{◌≡◌, OnOk, OnErr, IfOk};
+ghost use Rattle.std.specs.Prelude.{◌≡◌, ◌≢◌, [], OnOk, OnErr, IfOk};
 ghost use Rattle.model.specs.Remains.{family};
 ghost use Rattle.model.specs.Words.{base_of};
-ghost use Rattle.propagation.specs.Supports.{Inside, StillWithin};
+ghost use Rattle.propagation.specs.Supports.{Inside, Still, StillWithin};
+ghost use Rattle.propagation.specs.Waiting.{queued};
 ghost use Rattle.propagation.specs.Settling.{Emptied};
 ghost use Rattle.propagation.specs.Desks.{SameDesk, Held, Based};
 ghost use Rattle.propagation.specs.Calms.{Agrees, Going, Turned};
@@ -20,6 +21,7 @@ impl<'d, B: RuleBook> Desk<'d, B> {
         ensures same { SameDesk self.old self.new }
         ensures within { StillWithin (Agrees (B.meaning self.old.book.now) (base_of self.old.base.now)) self.old.domains.now self.new.domains.now }
         ensures dead { OnErr result (Emptied self.new.domains.now) }
+        ensures first { OnOk result (queued self.old.settled ≢ [] → Still (queued self.old.line.ends) (queued self.new.line.ends)) }
         ensures turned { IfOk result (Turned (B.meaning self.old.book.now) self.old self.new) }
     {
         if let Some(a) = self.settled.pop() {
