@@ -2,7 +2,7 @@
 ghost use Rattle.std.specs.Prelude.{OnOk, OnErr};
 ghost use Rattle.std.specs.List.{AllByRecursion};
 ghost use Rattle.propagation.specs.Waiting.{queued};
-ghost use Rattle.model.specs.Remains.{family, Heeds};
+ghost use Rattle.model.specs.Remains.{Heeds};
 ghost use Rattle.model.specs.Words.{base_of};
 ghost use Rattle.propagation.specs.Supports.{StillWithin};
 ghost use Rattle.propagation.specs.Settling.{Emptied};

@@ -1,5 +1,5 @@
 // A nogood whose other assignments are all settled loses the last one.
-ghost use Rattle.std.specs.Prelude.{◌≡◌, ℕ, ◌/◌, ◌<◌, ◌≢◌, length, Decides, MatchOption, OnOk, OnErr, slice_index};
+ghost use Rattle.std.specs.Prelude.{◌≡◌, ℕ, ◌/◌, ◌<◌, length, Decides, MatchOption, OnOk, OnErr, slice_index};
 ghost use Rattle.model.specs.Masks.{grp};
 ghost use Rattle.model.specs.Remains.{family, Only, Gone, Heeds};
 ghost use Rattle.propagation.specs.Supports.{StillWithin};

@@ -1,5 +1,5 @@
 // Takes what waits, until nothing does.
-ghost use Rattle.std.specs.Prelude.{◌≡◌, ◌≢◌, [], OnOk, OnErr, IfOk};
+ghost use Rattle.std.specs.Prelude.{◌≢◌, [], OnOk, OnErr, IfOk};
 ghost use Rattle.model.specs.Remains.{family};
 ghost use Rattle.model.specs.Words.{base_of};
 ghost use Rattle.propagation.specs.Supports.{Inside, Still, StillWithin};
