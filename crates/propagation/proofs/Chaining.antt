@@ -9,6 +9,11 @@ nones zero i = refl
 nones (suc n) zero = refl
 nones (suc n) (suc i) = nones n i
 
+pub zeros : (n i : ℕ) → ◌≡◌ {A = ℕ} (get_or (replicate n 0) i 0) 0
+zeros zero i = refl
+zeros (suc n) zero = refl
+zeros (suc n) (suc i) = zeros n i
+
 -- chains of one relation are those of another that says the same
 pub chains_same : (R S : ℕ → ℕ → Type 0) (top below : ℕ → Option ℕ) → ((v p : ℕ) → R v p → S v p) → ((v p : ℕ) → S v p → R v p) → Chains R top below → Chains S top below
 chains_same R S top below there back c = record {

@@ -1,9 +1,13 @@
 -- Chains of rule ends, made end by end. Assumes nothing.
-use Rattle.std.proofs.Common.{◌≡◌, ℕ, ◌+◌, ◌*◌, ◌/◌, ◌%◌, ◌<◌, ◌≤◌, Bool, true, false, eqb, List, length, get_or, set, Option, Some, None, sym, ap, ◌∙◌, subst, inl, inr, arith}
-use Rattle.std.proofs.lemmas.Bool.{cases_eq, cases_lt, eq-eqb, ne_eqb}
+use Rattle.std.proofs.Common.{◌≡◌, ℕ, ◌+◌, ◌*◌, ◌/◌, ◌%◌, ◌<◌, ◌≤◌, Bool, true, false, eqb, List, length, get_or, set, Option, Some, None, sym, refl, ap, ◌∙◌, subst, inl, inr, arith}
+use Rattle.std.proofs.lemmas.Bool.{cases_eq, cases_lt, eq-eqb, ne_eqb, both_ways}
 use Rattle.std.proofs.lemmas.List.{get_or-set_same, get_or-set_other, length-set}
 use Rattle.rules.specs.Meanings.{Meaning, Lawful}
-use Rattle.propagation.specs.Waits.{one_if, at_end}
+use Rattle.propagation.specs.declared.desk.Desk.{Desk}
+use Rattle.propagation.specs.Waiting.{queued}
+use Rattle.propagation.specs.Waits.{one_if, at_end, waits}
+use Rattle.propagation.specs.Supports.{Still}
+use Rattle.propagation.specs.Desks.{Step}
 use Rattle.rules.specs.Supports.{far}
 use Rattle.propagation.specs.Chains.{link, Below}
 use Rattle.propagation.specs.Wires.{Facing, Chained, Wired}
@@ -89,3 +93,13 @@ number_end e = elim (cases_eq (e % 2) 1) [
   | inl q ↦ (let z = ap one_if (eq-eqb (e % 2) 1 q) in omega arith)
   | inr n ↦ (let z = ap one_if (ne_eqb (e % 2) 1 n) in omega arith)
 ]
+
+-- what waited before a step waits after it
+pub step_still : (m : Meaning) {B : Type 0} (d e : Desk B) → Step m d e → Still (queued d.line.ends) (queued e.line.ends)
+step_still m d e s n h = go (waits (queued e.line.ends) n) refl
+  where
+    go : (b : Bool) → waits (queued e.line.ends) n ≡ b → waits (queued e.line.ends) n ≡ true
+    go true z = z
+    go false z =
+        let u = s.ends (n / 2) (eqb (n % 2) 1) (subst (λ (y : ℕ). waits (queued e.line.ends) y ≡ false) (sym (number_end n)) z) in
+        absurd (both_ways (waits (queued d.line.ends) n) (subst (λ (y : ℕ). waits (queued d.line.ends) y ≡ false) (number_end n) u.0) h)

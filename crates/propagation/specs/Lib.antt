@@ -9,6 +9,7 @@ pub mod Wires
 pub mod Spreads
 pub mod Desks
 pub mod Bases
+pub mod Branches
 pub mod Indexed
 pub mod Links
 pub mod Calms

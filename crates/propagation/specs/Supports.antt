@@ -2,7 +2,7 @@
 use Rattle.std.specs.Prelude.{◌≡◌, ℕ, ◌<◌, Bool, true, ◌⊎◌, List, Some}
 use Rattle.rules.specs.Meanings.{Meaning}
 use Rattle.rules.specs.Supports.{near, far, allows, Backed}
-use Rattle.model.specs.Remains.{Family}
+use Rattle.model.specs.Remains.{Family, family}
 use Rattle.propagation.specs.declared.records.RuleEnd.{RuleEnd}
 use Rattle.propagation.specs.Waits.{waits, at_end}
 
@@ -13,6 +13,10 @@ Supported m k i s = (e : ℕ × ℕ) → m.ends i ≡ Some e → (a : ℕ) → k
 -- The one family is within the other.
 abbrev pub Inside : Family → Family → Type 0
 Inside k l = (g c : ℕ) → k g c ≡ true → l g c ≡ true
+
+-- Every family of a kind that was within what the masks leave is still: nothing goes that such a family has.
+abbrev pub StillWithin : (Family → Type 0) → List ℕ → List ℕ → Type 0
+StillWithin F ms ms' = (k : Family) → F k → Inside k (family ms) → Inside k (family ms')
 
 -- The ends that wait before wait after.
 abbrev pub Still : List RuleEnd → List RuleEnd → Type 0

@@ -1,9 +1,11 @@
 // The rule ends across from a group go in the line.
-ghost use Rattle.std.specs.Prelude.{◌≡◌, ℕ, ◌<◌, ◌≢◌, length, slice_index};
+ghost use Rattle.std.specs.Prelude.{◌≡◌, ℕ, ◌+◌, ◌<◌, ◌≤◌, true, ◌≢◌, ◌⊎◌, length, slice_index};
+ghost use Rattle.rules.specs.Channels.{has};
 ghost use Rattle.model.specs.Remains.{family, Alive};
 ghost use Rattle.propagation.specs.Waiting.{queued};
+ghost use Rattle.propagation.specs.Waits.{waits};
 ghost use Rattle.propagation.specs.Supports.{Still, Across, Served};
-ghost use Rattle.propagation.specs.Wires.{Wired};
+ghost use Rattle.propagation.specs.Wires.{Facing, Wired};
 ghost use Rattle.propagation.specs.Lines.{SameLine};
 ghost use Rattle.propagation.specs.Desks.{Fitted};
 
@@ -22,6 +24,7 @@ impl<'d, B: RuleBook> Desk<'d, B> {
         ensures line { SameLine self.old.line self.new.line }
         ensures still { Still (queued self.old.line.ends) (queued self.new.line.ends) }
         ensures across { (i : ℕ) → Across (B.meaning self.old.book.now) g i (queued self.new.line.ends) }
+        ensures no_more { (e : ℕ) → waits (queued self.new.line.ends) e ≡ true → (waits (queued self.old.line.ends) e ≡ true) ⊎ Facing (B.meaning self.old.book.now) g e }
     {
         // Along the chain, which lies in an array, since nothing here has a heap. (The casts widen; of a `from` the proof would know less.)
         let mut next = self.wires[8192 + g as usize];
@@ -43,6 +46,7 @@ impl<'d, B: RuleBook> Desk<'d, B> {
         ensures line { SameLine self.old.line self.new.line }
         ensures still { Still (queued self.old.line.ends) (queued self.new.line.ends) }
         ensures served { (i : ℕ) → Served (B.meaning self.old.book.now) g (slice_index self.old.domains.now g) i (queued self.new.line.ends) }
+        ensures wide { (a b : ℕ) → has (slice_index self.old.domains.now g) a ≡ true → has (slice_index self.old.domains.now g) b ≡ true → a + slice_index self.old.spreads.now g ≤ b → self.new ≡ self.old }
     {
         let keeps = self.domains[g as usize];
         if u32::from(highest(keeps) - lowest(keeps)) < self.spreads[g as usize] {

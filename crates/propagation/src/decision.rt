@@ -5,8 +5,8 @@ ghost use Rattle.rules.specs.Channels.{has};
 ghost use Rattle.model.specs.Masks.{grp};
 ghost use Rattle.model.specs.Decisions.{word as assigned};
 ghost use Rattle.model.specs.Words.{decision, base_of, branch_of};
-ghost use Rattle.model.specs.Remains.{Family, family, Obeys, Alive};
-ghost use Rattle.propagation.specs.Supports.{Inside};
+ghost use Rattle.model.specs.Remains.{family, Obeys, Alive};
+ghost use Rattle.propagation.specs.Supports.{Inside, StillWithin};
 ghost use Rattle.propagation.specs.Settling.{Emptied};
 ghost use Rattle.propagation.specs.Desks.{SameDesk, Small, Laid};
 ghost use Rattle.propagation.specs.Bases.{Grouped};
@@ -31,7 +31,7 @@ impl<'d, B: RuleBook> Desk<'d, B> {
         requires group { g < length self.old.domains.now }
         requires inside { (j : ℕ) → has keeps j ≡ true → has (slice_index self.old.domains.now g) j ≡ true }
         ensures same { SameDesk self.old self.new }
-        ensures within { (k : Family) → Agrees (B.meaning self.old.book.now) (base_of self.old.base.now) k → Inside k (family (slice_set self.old.domains.now g keeps)) → Inside k (family self.new.domains.now) }
+        ensures within { StillWithin (Agrees (B.meaning self.old.book.now) (base_of self.old.base.now)) (slice_set self.old.domains.now g keeps) self.new.domains.now }
         ensures dead { OnErr result (Emptied self.new.domains.now) }
         ensures inside { OnOk result (Inside (family self.new.domains.now) (family (slice_set self.old.domains.now g keeps))) }
         ensures alive { OnOk result (Alive self.new.domains.now (family self.new.domains.now)) }
@@ -47,7 +47,7 @@ impl<'d, B: RuleBook> Desk<'d, B> {
         ensures group { result.0 ≡ grp (assigned (decision word)) }
         ensures inside { (j : ℕ) → has result.1 j ≡ true → has (slice_index self.now.domains.now result.0) j ≡ true }
         ensures obeys { Obeys (family (slice_set self.now.domains.now result.0 result.1)) (decision word) }
-        ensures within { (k : Family) → Obeys k (decision word) → Inside k (family self.now.domains.now) → Inside k (family (slice_set self.now.domains.now result.0 result.1)) }
+        ensures within { StillWithin (λ k. Obeys k (decision word)) self.now.domains.now (slice_set self.now.domains.now result.0 result.1) }
     {
         left_by(self.domains, word)
     }

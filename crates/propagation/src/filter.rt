@@ -1,11 +1,10 @@
 // What remains of the lists, exactly.
-ghost use Rattle.std.specs.Prelude.{◌≡◌, ℕ, ◌<◌, ◌≤◌, length, take, OnOk, OnErr, slice_index};
+ghost use Rattle.std.specs.Prelude.{◌≡◌, ◌<◌, ◌≤◌, length, take, OnOk, OnErr};
 ghost use Rattle.std.specs.List.{AllByRecursion};
-ghost use Rattle.model.specs.Masks.{grp};
-ghost use Rattle.model.specs.Decisions.{word as assigned};
-ghost use Rattle.model.specs.Words.{decision, branch_of, base_of};
-ghost use Rattle.model.specs.Remains.{Family, family, Obeys, Alive};
-ghost use Rattle.propagation.specs.Supports.{Inside};
+ghost use Rattle.model.specs.Words.{branch_of, base_of};
+ghost use Rattle.model.specs.Remains.{family, Alive};
+ghost use Rattle.propagation.specs.Branches.{GroupsBelow, ObeysAll};
+ghost use Rattle.propagation.specs.Supports.{Inside, StillWithin};
 ghost use Rattle.propagation.specs.Settling.{Emptied};
 ghost use Rattle.propagation.specs.Desks.{SameDesk, Small, Laid};
 ghost use Rattle.propagation.specs.Bases.{Grouped};
@@ -23,10 +22,10 @@ use rules::book::RuleBook;
 // The lists after the decisions.
 pub fn prepare(lists: &[u64], branch: &[u32], domains: &mut [u64]) -> Result<(), Dead>
     requires size { length domains.old ≡ length lists.now }
-    requires groups { (i : ℕ) → i < length branch.now → grp (assigned (decision (slice_index branch.now i))) < length domains.old }
+    requires groups { GroupsBelow (length domains.old) branch.now }
     ensures inside { Inside (family domains.new) (family lists.now) }
-    ensures obeys { (i : ℕ) → i < length branch.now → Obeys (family domains.new) (decision (slice_index branch.now i)) }
-    ensures within { (k : Family) → ((i : ℕ) → i < length branch.now → Obeys k (decision (slice_index branch.now i))) → Inside k (family lists.now) → Inside k (family domains.new) }
+    ensures obeys { ObeysAll branch.now (family domains.new) }
+    ensures within { StillWithin (ObeysAll branch.now) lists.now domains.new }
     ensures dead { OnErr result (Emptied domains.new) }
     ensures alive { OnOk result (Alive domains.new (family domains.new)) }
 {
@@ -39,13 +38,13 @@ pub fn prepare(lists: &[u64], branch: &[u32], domains: &mut [u64]) -> Result<(),
 }
 
 impl<'d, B: RuleBook> Desk<'d, B> {
-    // The rules and the nogoods, with every rule end in line at first.
+    // The rules and the nogoods, with the ends across from narrow groups in line at first.
     pub fn run(&mut self) -> Result<(), Dead>
         requires laid { Laid (B.meaning self.old.book.now) self.old }
         requires alive { Alive self.old.domains.now (family self.old.domains.now) }
         requires small { Small self.old.domains.now }
         ensures same { SameDesk self.old self.new }
-        ensures within { (k : Family) → Agrees (B.meaning self.old.book.now) (base_of self.old.base.now) k → Inside k (family self.old.domains.now) → Inside k (family self.new.domains.now) }
+        ensures within { StillWithin (Agrees (B.meaning self.old.book.now) (base_of self.old.base.now)) self.old.domains.now self.new.domains.now }
         ensures dead { OnErr result (Emptied self.new.domains.now) }
         ensures inside { OnOk result (Inside (family self.new.domains.now) (family self.old.domains.now)) }
         ensures alive { OnOk result (Alive self.new.domains.now (family self.new.domains.now)) }
@@ -60,7 +59,7 @@ impl<'d, B: RuleBook> Desk<'d, B> {
     pub fn filter(&mut self, lists: &[u64], branch: &[u32]) -> Result<(), Dead>
         requires laid { Laid (B.meaning self.old.book.now) self.old }
         requires groups { length lists.now ≡ (B.meaning self.old.book.now).groups }
-        requires decided { (i : ℕ) → i < length branch.now → grp (assigned (decision (slice_index branch.now i))) < length lists.now }
+        requires decided { GroupsBelow (length lists.now) branch.now }
         ensures same { SameDesk self.old self.new }
         ensures dead { OnErr result (Dies lists.now (B.meaning self.old.book.now) (base_of self.old.base.now) (branch_of branch.now (length branch.now))) }
         ensures lives { OnOk result (Lives lists.now (B.meaning self.old.book.now) (base_of self.old.base.now) (branch_of branch.now (length branch.now)) self.new.domains.now) }
@@ -86,7 +85,7 @@ pub fn propagate<B: RuleBook>(
     requires rules { (B.meaning book.now).count ≤ 4096 }
     requires linked { Linked (B.meaning book.now) base.now links.now }
     requires roomy { Roomy (length lists.now) (B.meaning book.now).count (length bench.old.domains.now) (length bench.old.marks.now) (length bench.old.ends.now) (length bench.old.settled.now) }
-    requires decided { (i : ℕ) → i < length branch.now → grp (assigned (decision (slice_index branch.now i))) < length lists.now }
+    requires decided { GroupsBelow (length lists.now) branch.now }
     requires grouped { AllByRecursion (Grouped (length lists.now)) (base_of base.now) }
     ensures same { SameRegions bench.old bench.new }
     ensures dead { OnErr result (Dies lists.now (B.meaning book.now) (base_of base.now) (branch_of branch.now (length branch.now))) }

@@ -2,9 +2,9 @@
 ghost use Rattle.std.specs.Prelude.{OnOk, OnErr};
 ghost use Rattle.std.specs.List.{AllByRecursion};
 ghost use Rattle.propagation.specs.Waiting.{queued};
-ghost use Rattle.model.specs.Remains.{Family, family, Heeds};
+ghost use Rattle.model.specs.Remains.{Heeds};
 ghost use Rattle.model.specs.Words.{base_of};
-ghost use Rattle.propagation.specs.Supports.{Inside};
+ghost use Rattle.propagation.specs.Supports.{StillWithin};
 ghost use Rattle.propagation.specs.Settling.{Emptied};
 ghost use Rattle.propagation.specs.Desks.{SameDesk, Held, Based, Step};
 ghost use Rattle.propagation.specs.Bases.{Good, Spared};
@@ -20,7 +20,7 @@ impl<'d, B: RuleBook> Desk<'d, B> {
         requires based { Based (B.meaning self.old.book.now) self.old }
         requires others { AllByRecursion (λ n. Spared v n → Good self.old.domains.now (queued self.old.settled) n) (base_of self.old.base.now) }
         ensures same { SameDesk self.old self.new }
-        ensures within { (k : Family) → AllByRecursion (Heeds k) (base_of self.old.base.now) → Inside k (family self.old.domains.now) → Inside k (family self.new.domains.now) }
+        ensures within { StillWithin (λ k. AllByRecursion (Heeds k) (base_of self.old.base.now)) self.old.domains.now self.new.domains.now }
         ensures dead { OnErr result (Emptied self.new.domains.now) }
         ensures held { OnOk result (Held (B.meaning self.old.book.now) self.new) }
         ensures step { OnOk result (Step (B.meaning self.old.book.now) self.old self.new) }

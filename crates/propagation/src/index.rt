@@ -17,7 +17,10 @@ pub struct Index {
 impl Index {
     // Of a base that has nothing.
     pub fn new() -> Index
-        ensures { Knows [] result }
+        ensures known { Knows [] result }
+        ensures heads { (v : ℕ) → slice_index_or result.heads v None ≡ None }
+        ensures links { (p : ℕ) → slice_index_or result.links p None ≡ None }
+        ensures starts { (p : ℕ) → slice_index result.starts p ≡ 0 }
     {
         Index {
             heads: [None; 12800],

@@ -1,11 +1,11 @@
 // A nogood whose other assignments are all settled loses the last one.
-ghost use Rattle.std.specs.Prelude.{◌≡◌, ℕ, ◌/◌, ◌<◌, ◌≢◌, length, Decides, MatchOption, OnOk, OnErr, slice_index};
+ghost use Rattle.std.specs.Prelude.{◌≡◌, ℕ, ◌/◌, ◌<◌, length, Decides, MatchOption, OnOk, OnErr, slice_index};
 ghost use Rattle.model.specs.Masks.{grp};
-ghost use Rattle.model.specs.Remains.{Family, family, Only, Gone, Heeds};
-ghost use Rattle.propagation.specs.Supports.{Inside};
+ghost use Rattle.model.specs.Remains.{family, Only, Gone, Heeds};
+ghost use Rattle.propagation.specs.Supports.{StillWithin};
 ghost use Rattle.propagation.specs.Settling.{Emptied};
 ghost use Rattle.propagation.specs.Desks.{SameDesk, Held, Step};
-ghost use Rattle.propagation.specs.Bases.{Grouped, Forced};
+ghost use Rattle.propagation.specs.Bases.{Grouped, Forced, Finds};
 
 use super::bench::Dead;
 use super::desk::Desk;
@@ -50,7 +50,7 @@ pub fn unsettled(nogood: &[u32], domains: &[u64]) -> Option<u32>
 // An assignment whose others are all settled: the one that is not settled itself, or any.
 pub fn forced(nogood: &[u32], domains: &[u64]) -> Option<u32>
     requires { Grouped (length domains.now) nogood.now }
-    ensures { MatchOption result ((k : ℕ) → k < length nogood.now → Forced (family domains.now) nogood.now (slice_index nogood.now k) → ⊥) (λ w. (k : ℕ) × (k < length nogood.now) × (w ≡ slice_index nogood.now k) × Forced (family domains.now) nogood.now w) }
+    ensures { Finds (Forced (family domains.now) nogood.now) nogood.now result }
 {
     match unsettled(nogood, domains) {
         Some(w) => others_settled(nogood, w, domains).then_some(w),
@@ -64,7 +64,7 @@ impl<'d, B: RuleBook> Desk<'d, B> {
         requires held { Held (B.meaning self.old.book.now) self.old }
         requires group { grp v < length self.old.domains.now }
         ensures same { SameDesk self.old self.new }
-        ensures within { (k : Family) → Gone k v → Inside k (family self.old.domains.now) → Inside k (family self.new.domains.now) }
+        ensures within { StillWithin (λ k. Gone k v) self.old.domains.now self.new.domains.now }
         ensures gone { Gone (family self.new.domains.now) v }
         ensures dead { OnErr result (Emptied self.new.domains.now) }
         ensures held { OnOk result (Held (B.meaning self.old.book.now) self.new) }
@@ -79,7 +79,7 @@ impl<'d, B: RuleBook> Desk<'d, B> {
     // are is not known afterwards.)
     pub fn forced(&self, nogood: &[u32]) -> Option<u32>
         requires { Grouped (length self.now.domains.now) nogood.now }
-        ensures { MatchOption result ((k : ℕ) → k < length nogood.now → Forced (family self.now.domains.now) nogood.now (slice_index nogood.now k) → ⊥) (λ w. (k : ℕ) × (k < length nogood.now) × (w ≡ slice_index nogood.now k) × Forced (family self.now.domains.now) nogood.now w) }
+        ensures { Finds (Forced (family self.now.domains.now) nogood.now) nogood.now result }
     {
         forced(nogood, self.domains)
     }
@@ -89,7 +89,7 @@ impl<'d, B: RuleBook> Desk<'d, B> {
         requires held { Held (B.meaning self.old.book.now) self.old }
         requires grouped { Grouped (length self.old.domains.now) nogood.now }
         ensures same { SameDesk self.old self.new }
-        ensures within { (k : Family) → Heeds k nogood.now → Inside k (family self.old.domains.now) → Inside k (family self.new.domains.now) }
+        ensures within { StillWithin (λ k. Heeds k nogood.now) self.old.domains.now self.new.domains.now }
         ensures dead { OnErr result (Emptied self.new.domains.now) }
         ensures held { OnOk result (Held (B.meaning self.old.book.now) self.new) }
         ensures step { OnOk result (Step (B.meaning self.old.book.now) self.old self.new) }

@@ -1,8 +1,8 @@
 // The group at an end of a rule keeps the channels that are backed from across.
 ghost use Rattle.std.specs.Prelude.{◌≡◌, OnOk, OnErr};
-ghost use Rattle.model.specs.Remains.{Family, family};
+ghost use Rattle.model.specs.Remains.{family};
 ghost use Rattle.rules.specs.Supports.{near, far};
-ghost use Rattle.propagation.specs.Supports.{Supported, Inside};
+ghost use Rattle.propagation.specs.Supports.{Supported, StillWithin};
 ghost use Rattle.propagation.specs.Settling.{Emptied};
 ghost use Rattle.propagation.specs.Desks.{SameDesk, Held, Step};
 
@@ -24,7 +24,7 @@ impl<'d, B: RuleBook> Desk<'d, B> {
     pub fn revise(&mut self, e: RuleEnd) -> Result<(), Dead>
         requires held { Held (B.meaning self.old.book.now) self.old }
         ensures same { SameDesk self.old self.new }
-        ensures within { (k : Family) → Supported (B.meaning self.old.book.now) k e.rule e.second → Inside k (family self.old.domains.now) → Inside k (family self.new.domains.now) }
+        ensures within { StillWithin (λ k. Supported (B.meaning self.old.book.now) k e.rule e.second) self.old.domains.now self.new.domains.now }
         ensures dead { OnErr result (Emptied self.new.domains.now) }
         ensures held { OnOk result (Held (B.meaning self.old.book.now) self.new) }
         ensures step { OnOk result (Step (B.meaning self.old.book.now) self.old self.new) }

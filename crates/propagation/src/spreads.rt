@@ -1,5 +1,7 @@
 // How far two channels of a group have to be apart for every channel across from it to go with one of them.
-ghost use Rattle.std.specs.Prelude.{◌≡◌, ℕ, ◌+◌, ◌<◌, ◌≤◌, length, slice_index};
+ghost use Rattle.std.specs.Prelude.{◌≡◌, ℕ, ◌+◌, ◌<◌, ◌≤◌, Bool, ◌≢◌, ◌⊎◌, length, slice_index};
+ghost use Rattle.propagation.specs.Waits.{at_end};
+ghost use Rattle.propagation.specs.Wires.{Facing};
 ghost use Rattle.propagation.specs.Spreads.{Enough, Spreads};
 
 use rules::book::RuleBook;
@@ -9,6 +11,8 @@ pub fn widen(spreads: &mut [u32], g: u16, w: u32)
     requires { g < length spreads.old }
     ensures more { (h : ℕ) → slice_index spreads.old h ≤ slice_index spreads.new h }
     ensures here { w ≤ slice_index spreads.new g }
+    ensures no_more { (slice_index spreads.new g ≡ w) ⊎ (slice_index spreads.new g ≡ slice_index spreads.old g) }
+    ensures others { (h : ℕ) → h ≢ g → slice_index spreads.new h ≡ slice_index spreads.old h }
 {
     let g = g as usize;
     spreads[g] = spreads[g].max(w);
@@ -19,7 +23,8 @@ pub fn spread_rule<B: RuleBook>(book: &B, spreads: &mut [u32], i: u32)
     requires size { length spreads.old ≡ 200 }
     requires groups { (B.meaning book.now).groups ≤ 200 }
     requires before { Enough (B.meaning book.now) i spreads.old }
-    ensures { Enough (B.meaning book.now) (i + 1) spreads.new }
+    ensures enough { Enough (B.meaning book.now) (i + 1) spreads.new }
+    ensures others { (h : ℕ) → ((s : Bool) → Facing (B.meaning book.now) h (at_end i s) → ⊥) → slice_index spreads.new h ≡ slice_index spreads.old h }
 {
     if let Some((first, second)) = book.ends(i) {
         widen(spreads, second, book.spread(i, false));
@@ -31,7 +36,8 @@ pub fn spread_rule<B: RuleBook>(book: &B, spreads: &mut [u32], i: u32)
 pub fn spread<B: RuleBook>(book: &B, spreads: &mut [u32])
     requires size { length spreads.old ≡ 200 }
     requires groups { (B.meaning book.now).groups ≤ 200 }
-    ensures { Spreads (B.meaning book.now) spreads.new }
+    ensures spread { Spreads (B.meaning book.now) spreads.new }
+    ensures others { (h : ℕ) → ((n : ℕ) → Facing (B.meaning book.now) h n → ⊥) → slice_index spreads.new h ≡ slice_index spreads.old h }
 {
     // Rules have numbers and no list to go over.
     for i in 0..book.count() {

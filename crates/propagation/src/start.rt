@@ -1,11 +1,12 @@
 // Where the work starts: the lists after the decisions.
-ghost use Rattle.std.specs.Prelude.{◌≡◌, ℕ, ◌<◌, Bool, true, false, ◌&&◌, length, Decides, ◌==◌, slice_index, slice_set};
+ghost use Rattle.std.specs.Prelude.{◌≡◌, ℕ, ◌<◌, true, false, ◌&&◌, length, Decides, ◌==◌, slice_index, slice_set};
 ghost use Rattle.rules.specs.Channels.{has};
 ghost use Rattle.model.specs.Masks.{grp};
 ghost use Rattle.model.specs.Decisions.{word as assigned};
 ghost use Rattle.model.specs.Words.{decision};
-ghost use Rattle.model.specs.Remains.{Family, family, Obeys, Alive};
-ghost use Rattle.propagation.specs.Supports.{Inside};
+ghost use Rattle.model.specs.Remains.{family, Obeys, Alive};
+ghost use Rattle.propagation.specs.Branches.{GroupsBelow, ObeysAll};
+ghost use Rattle.propagation.specs.Supports.{Inside, StillWithin};
 ghost use Rattle.propagation.specs.Settling.{Emptied};
 
 use model::decision::{Decision, channel_of, group_of};
@@ -26,7 +27,7 @@ pub fn left_by(domains: &[u64], word: u32) -> (usize, u64)
     ensures group { result.0 ≡ grp (assigned (decision word)) }
     ensures inside { (j : ℕ) → has result.1 j ≡ true → has (slice_index domains.now result.0) j ≡ true }
     ensures obeys { Obeys (family (slice_set domains.now result.0 result.1)) (decision word) }
-    ensures within { (k : Family) → Obeys k (decision word) → Inside k (family domains.now) → Inside k (family (slice_set domains.now result.0 result.1)) }
+    ensures within { StillWithin (λ k. Obeys k (decision word)) domains.now (slice_set domains.now result.0 result.1) }
 {
     match Decision::from(word) {
         Decision::Taken(v) => {
@@ -45,7 +46,7 @@ pub fn decide(domains: &mut [u64], word: u32)
     requires { grp (assigned (decision word)) < length domains.old }
     ensures inside { Inside (family domains.new) (family domains.old) }
     ensures obeys { Obeys (family domains.new) (decision word) }
-    ensures within { (k : Family) → Obeys k (decision word) → Inside k (family domains.old) → Inside k (family domains.new) }
+    ensures within { StillWithin (λ k. Obeys k (decision word)) domains.old domains.new }
 {
     let (g, keeps) = left_by(domains, word);
     domains[g] = keeps;
@@ -53,10 +54,10 @@ pub fn decide(domains: &mut [u64], word: u32)
 
 // All decisions of the branch.
 pub fn decide_all(domains: &mut [u64], branch: &[u32])
-    requires { (i : ℕ) → i < length branch.now → grp (assigned (decision (slice_index branch.now i))) < length domains.old }
+    requires { GroupsBelow (length domains.old) branch.now }
     ensures inside { Inside (family domains.new) (family domains.old) }
-    ensures obeys { (i : ℕ) → i < length branch.now → Obeys (family domains.new) (decision (slice_index branch.now i)) }
-    ensures within { (k : Family) → ((i : ℕ) → i < length branch.now → Obeys k (decision (slice_index branch.now i))) → Inside k (family domains.old) → Inside k (family domains.new) }
+    ensures obeys { ObeysAll branch.now (family domains.new) }
+    ensures within { StillWithin (ObeysAll branch.now) domains.old domains.new }
 {
     for &word in branch {
         decide(domains, word);

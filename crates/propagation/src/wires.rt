@@ -1,5 +1,6 @@
 // The rule ends across from each group as chains, so that what a group's loss calls for is found without a look at every rule.
-ghost use Rattle.std.specs.Prelude.{◌≡◌, ℕ, ◌+◌, ◌*◌, ◌<◌, ◌≤◌, length};
+ghost use Rattle.std.specs.Prelude.{◌≡◌, ℕ, ◌+◌, ◌*◌, ◌<◌, ◌≤◌, None, length};
+ghost use Rattle.propagation.specs.Chains.{link};
 ghost use Rattle.propagation.specs.Wires.{Facing, Chained, Wired};
 
 use rules::book::RuleBook;
@@ -37,14 +38,14 @@ pub fn chain_rule<B: RuleBook>(book: &B, wires: &mut [Option<u16>], i: u32)
     }
 }
 
-// All rules of the book.
+// All rules of the book, over places that say nothing yet.
 pub fn wire<B: RuleBook>(book: &B, wires: &mut [Option<u16>])
     requires size { length wires.old ≡ 8392 }
     requires groups { (B.meaning book.now).groups ≤ 200 }
     requires rules { (B.meaning book.now).count ≤ 4096 }
+    requires blank { (p : ℕ) → link wires.old p ≡ None }
     ensures { Wired (B.meaning book.now) wires.new }
 {
-    wires.fill(None);
     // Rules have numbers and no list to go over.
     for i in 0..book.count() {
         chain_rule(book, wires, i);

@@ -1,8 +1,9 @@
 // Takes what waits, until nothing does.
-ghost use Rattle.std.specs.Prelude.{◌≡◌, OnOk, OnErr, IfOk};
-ghost use Rattle.model.specs.Remains.{Family, family};
+ghost use Rattle.std.specs.Prelude.{◌≢◌, [], OnOk, OnErr, IfOk};
+ghost use Rattle.model.specs.Remains.{family};
 ghost use Rattle.model.specs.Words.{base_of};
-ghost use Rattle.propagation.specs.Supports.{Inside};
+ghost use Rattle.propagation.specs.Supports.{Inside, Still, StillWithin};
+ghost use Rattle.propagation.specs.Waiting.{queued};
 ghost use Rattle.propagation.specs.Settling.{Emptied};
 ghost use Rattle.propagation.specs.Desks.{SameDesk, Held, Based};
 ghost use Rattle.propagation.specs.Calms.{Agrees, Going, Turned};
@@ -18,8 +19,9 @@ impl<'d, B: RuleBook> Desk<'d, B> {
         requires based { Based (B.meaning self.old.book.now) self.old }
         requires going { Going (B.meaning self.old.book.now) self.old }
         ensures same { SameDesk self.old self.new }
-        ensures within { (k : Family) → Agrees (B.meaning self.old.book.now) (base_of self.old.base.now) k → Inside k (family self.old.domains.now) → Inside k (family self.new.domains.now) }
+        ensures within { StillWithin (Agrees (B.meaning self.old.book.now) (base_of self.old.base.now)) self.old.domains.now self.new.domains.now }
         ensures dead { OnErr result (Emptied self.new.domains.now) }
+        ensures first { OnOk result (queued self.old.settled ≢ [] → Still (queued self.old.line.ends) (queued self.new.line.ends)) }
         ensures turned { IfOk result (Turned (B.meaning self.old.book.now) self.old self.new) }
     {
         if let Some(a) = self.settled.pop() {
@@ -39,7 +41,7 @@ impl<'d, B: RuleBook> Desk<'d, B> {
         requires based { Based (B.meaning self.old.book.now) self.old }
         requires going { Going (B.meaning self.old.book.now) self.old }
         ensures same { SameDesk self.old self.new }
-        ensures within { (k : Family) → Agrees (B.meaning self.old.book.now) (base_of self.old.base.now) k → Inside k (family self.old.domains.now) → Inside k (family self.new.domains.now) }
+        ensures within { StillWithin (Agrees (B.meaning self.old.book.now) (base_of self.old.base.now)) self.old.domains.now self.new.domains.now }
         ensures dead { OnErr result (Emptied self.new.domains.now) }
         ensures inside { OnOk result (Inside (family self.new.domains.now) (family self.old.domains.now)) }
         ensures held { OnOk result (Held (B.meaning self.old.book.now) self.new) }

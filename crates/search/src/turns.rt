@@ -142,7 +142,7 @@ fn turn_alive<O: Order, P: RestartPolicy>(
     Step::Made(Move::Decide)
 }
 
-// The chains of the book, and the index of the nogoods that are recorded.
+// The chains and the spreads of the book, and the index of the nogoods that are recorded.
 pub(crate) fn links_of<B: RuleBook>(book: &B, at: &Progress, base: &[u32]) -> Links
     requires groups { (B.meaning book.now).groups ≤ 200 }
     requires rules { (B.meaning book.now).count ≤ 4096 }

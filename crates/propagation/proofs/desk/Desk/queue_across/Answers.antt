@@ -1,5 +1,5 @@
 use Rattle.std.proofs.Common.{◌≡◌, ℕ, ◌/◌, ◌%◌, ◌<◌, true, eqb, Option, IfSome, sym, refl, ap, ◌∙◌, subst, inl, inr, arith}
-use Rattle.std.proofs.lemmas.Bool.{cases_eq, cases_lt, eq-eqb, or_left, or_right}
+use Rattle.std.proofs.lemmas.Bool.{cases_eq, cases_lt, eq-eqb, eqb-true, or_cases, or_left, or_right}
 use Rattle.std.proofs.lemmas.Option.{IfSome_then}
 use Rattle.propagation.specs.declared.desk.Desk.{Desk}
 use Rattle.propagation.specs.Waiting.{queued}
@@ -17,6 +17,7 @@ loop-next-init g c =
       only = refl;
       line = record { places = refl; marks = refl; size = refl; rules = refl };
       still = λ e h. h;
+      no_more = λ e h. inl h;
       here = w.chains.head c.args.g;
       past = λ n f l. absurd (above_below _ n (w.chains.last c.args.g n f) l);
     }
@@ -54,6 +55,10 @@ loop-next-preserved g c =
       only = ap (λ (d : Desk g.row.B.Denot). record d { line = c.add.new.self }) i.only;
       line = record { places = s.places ∙ i.line.places; marks = s.marks ∙ i.line.marks; size = s.size ∙ i.line.size; rules = s.rules ∙ i.line.rules };
       still = λ n h. c.add.ensures.more n ∙ or_left _ _ (i.still n h);
+      no_more = λ n h. elim (or_cases _ _ (sym (c.add.ensures.more n) ∙ h)) [
+        | inl t ↦ i.no_more n t
+        | inr t ↦ inr (subst (λ (y : ℕ). Facing m x y) (sym (number_end e) ∙ sym (eqb-true n _ t)) f)
+      ];
       here = IfSome_then (link c.loop-next.self.wires.now e) (w.chains.down x e f) (λ n t. t.1);
       past = λ n h l. elim (cases_eq n e) [
         | inl q ↦ subst (λ (y : ℕ). waits q' y ≡ true) (sym q) there

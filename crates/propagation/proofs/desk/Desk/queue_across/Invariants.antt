@@ -1,4 +1,4 @@
-use Rattle.std.proofs.Common.{◌≡◌, ℕ, ◌<◌, true, IfSome}
+use Rattle.std.proofs.Common.{◌≡◌, ℕ, ◌<◌, true, ◌⊎◌, IfSome}
 use Rattle.propagation.specs.Waiting.{queued}
 use Rattle.propagation.specs.Waits.{waits}
 use Rattle.propagation.specs.Lines.{SameLine}
@@ -12,6 +12,7 @@ invariant-loop-next g l = record {
   only : l.self ≡ record l.initial.self { line = l.self.line };
   line : SameLine l.initial.self.line l.self.line;
   still : Still (queued l.initial.self.line.ends) (queued l.self.line.ends);
+  no_more : (n : ℕ) → waits (queued l.self.line.ends) n ≡ true → (waits (queued l.initial.self.line.ends) n ≡ true) ⊎ Facing (g.B.RuleBook.meaning l.initial.self.book.now) l.g n;
   here : IfSome l.next (λ e. Facing (g.B.RuleBook.meaning l.initial.self.book.now) l.g e);
   past : (n : ℕ) → Facing (g.B.RuleBook.meaning l.initial.self.book.now) l.g n → IfSome l.next (λ e. e < n) → waits (queued l.self.line.ends) n ≡ true;
 }

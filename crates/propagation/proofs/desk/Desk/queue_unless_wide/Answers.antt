@@ -15,3 +15,6 @@ returns-else-from-self-clause-served g c = λ i s e h f.
       | inl t ↦ (low, c.lowest.ensures.there, t)
       | inr t ↦ (high, c.highest.ensures.there, t)
     ])
+
+pub returns-then-from-self-clause-wide : goal.returns-then-from-self-clause-wide
+returns-then-from-self-clause-wide g c = λ a b h k l. absurd (omega (arith, l, c.lowest.ensures.least a h, c.highest.ensures.most b k, c.if-from-self.true, c.from.ensures))

@@ -10,6 +10,7 @@ use Rattle.propagation.specs.Bases.{Good}
 use Rattle.propagation.specs.Calms.{Calm}
 use Rattle.propagation.proofs.Walking.{good_step}
 use Rattle.propagation.proofs.Turning.{spare, settled_from, weight_falls, calm_step, calm_looked, all_done}
+use Rattle.propagation.proofs.Wiring.{step_still}
 use Rattle.propagation.proofs.desk.Desk.take_turn.Goals as goal
 
 pub heed-requires-clause-held : goal.heed-requires-clause-held
@@ -101,3 +102,12 @@ returns-clause-turned g c =
       same = refl;
       agrees = all_done m (base_of d0.base.now) ms (queued d0.line.ends) (queued d0.settled) f.0 o.0 c.requires.going.calm c.requires.going.good;
     }
+
+pub returns-in-Some-clause-first : goal.returns-in-Some-clause-first
+returns-in-Some-clause-first g c = λ n. step_still (g.B.RuleBook.meaning c.args.self.now.book.now) (record c.args.self.now { settled = c.pop.new.self }) c.heed.new.self c.in_ok-heed.ensures.step
+
+pub returns-in-Some-take-clause-first : goal.returns-in-Some-take-clause-first
+returns-in-Some-take-clause-first g c = λ n. absurd (n c.in_default.ensures.line.0)
+
+pub returns-clause-first : goal.returns-clause-first
+returns-clause-first g c = λ n. absurd (n c.in_default.ensures.line.0)
