@@ -1,7 +1,7 @@
 -- What the fewest-first order answers. Assumes nothing.
-use Rattle.std.specs.Prelude.{◌≡◌, ℕ, Bool, zero, suc, ◌+◌, ◌^◌, ◌<◌, ◌≤◌, true, false, ◌&&◌, List, length, Some, None, Option, MatchOption, ◌≢◌, count_ones, nat_lt, slice_index, refl}
-use Rattle.std.proofs.Common.{sym, ap, subst, ◌∙◌, inl, inr, arith, add-one}
-use Rattle.std.proofs.lemmas.Bool.{cases_eq, cases_lt, cond_both, cond-true, cond-false, leb-true, leb-false, lt-leb, le-leb, ltb-true, ltb-false, and_parts, and_cases, and_left, and_right, and_from, true≢false}
+use Rattle.std.specs.Prelude.{◌≡◌, ℕ, Bool, zero, suc, ◌^◌, ◌<◌, ◌≤◌, true, ◌&&◌, List, length, Some, None, Option, MatchOption, ◌≢◌, count_ones, nat_lt, slice_index, refl}
+use Rattle.std.proofs.Common.{sym, ap, subst, inl, inr, arith}
+use Rattle.std.proofs.lemmas.Bool.{cases_eq, cases_lt, cond_both, leb-true, leb-false, ltb-true, ltb-false, and_parts, and_cases}
 use Rattle.std.specs.Int.Count.{count_trailing_zeros}
 use Rattle.std.specs.Option.{option_map}
 use Rattle.std.proofs.lemmas.List.{get_or_past}
@@ -76,31 +76,6 @@ counted ms a = option_map (λ g. (g, count ms g)) a
 abbrev pub wins : ℕ → Option (ℕ × ℕ) → Bool
 wins n None = true
 wins n (Some p) = nat_lt n p.1
-
-after_wins : (ms : List ℕ) (i : ℕ) (a : Option ℕ) → 2 ≤ count ms i → wins (count ms i) (counted ms a) ≡ true → after ms i a ≡ Some i
-after_wins ms i None l w = cond-true (open? ms i) (Some i) None (le-leb 2 (count ms i) l)
-after_wins ms i (Some b) l w = cond-true (open? ms i && nat_lt (count ms i) (count ms b)) (Some i) (Some b) (and_from (open? ms i) (nat_lt (count ms i) (count ms b)) (le-leb 2 (count ms i) l) w)
-
-after_shut : (ms : List ℕ) (i : ℕ) (a : Option ℕ) → count ms i < 2 → after ms i a ≡ a
-after_shut ms i None l = cond-false (open? ms i) (Some i) None (lt-leb 2 (count ms i) l)
-after_shut ms i (Some b) l = cond-false (open? ms i && nat_lt (count ms i) (count ms b)) (Some i) (Some b) (and_left (open? ms i) (nat_lt (count ms i) (count ms b)) (lt-leb 2 (count ms i) l))
-
-after_keeps : (ms : List ℕ) (i : ℕ) (a : Option ℕ) → wins (count ms i) (counted ms a) ≡ false → after ms i a ≡ a
-after_keeps ms i None w = absurd (true≢false w)
-after_keeps ms i (Some b) w = cond-false (open? ms i && nat_lt (count ms i) (count ms b)) (Some i) (Some b) (and_right (open? ms i) (nat_lt (count ms i) (count ms b)) w)
-
-module _ (ms : List ℕ) (i : ℕ) (best : Option (ℕ × ℕ)) (so_far : best ≡ counted ms (fewest_of ms i)) where
-  more : (a : Option ℕ) → after ms i (fewest_of ms i) ≡ a → counted ms a ≡ counted ms (fewest_of ms (i + 1))
-  more a e = ap (counted ms) (sym e ∙ ap (fewest_of ms) (sym (add-one i)))
-
-  pub best_taken : 2 ≤ count ms i → wins (count ms i) best ≡ true → Some (i, count ms i) ≡ counted ms (fewest_of ms (i + 1))
-  best_taken l w = more (Some i) (after_wins ms i (fewest_of ms i) l (ap (wins (count ms i)) (sym so_far) ∙ w))
-
-  pub best_shut : count ms i < 2 → best ≡ counted ms (fewest_of ms (i + 1))
-  best_shut l = so_far ∙ more (fewest_of ms i) (after_shut ms i (fewest_of ms i) l)
-
-  pub best_kept : wins (count ms i) best ≡ false → best ≡ counted ms (fewest_of ms (i + 1))
-  best_kept w = so_far ∙ more (fewest_of ms i) (after_keeps ms i (fewest_of ms i) (ap (wins (count ms i)) (sym so_far) ∙ w))
 
 -- the lowest channel, found in 64 digits
 pub lowest_by : (d m : ℕ) → (m ≢ 0) → m < 2 ^ d → Some (count_trailing_zeros d m) ≡ lowest m

@@ -1,10 +1,10 @@
 // Orders by what they answer and hold, and fewest first.
-ghost use Rattle.std.specs.Prelude.{◌≡◌, ℕ, ◌<◌, ◌≤◌, List, length, MatchOption};
+ghost use Rattle.std.specs.Prelude.{◌≡◌, ℕ, ◌<◌, ◌≤◌, ◌&&◌, List, length, MatchOption, nat_le};
 ghost use Rattle.rules.specs.Channels.{Has};
 ghost use Rattle.branching.specs.Channels.{Open};
 ghost use Rattle.branching.specs.Order.{OrderMeaning, Lawful, choice, chosen, GoodChoice};
 ghost use Rattle.branching.specs.Fewest.{FewestAnswer, fewest, fewest_first};
-ghost use Rattle.branching.specs.FewestLemmas.{fewest_lawful};
+ghost use Rattle.branching.specs.FewestLemmas.{wins, fewest_lawful};
 
 pub trait Order {
     ghost Held: { Type 0 };
@@ -40,6 +40,13 @@ pub fn pick<O: Order>(order: &mut O, domains: &[u64]) -> Option<(u16, u8)>
     Some((g, c))
 }
 
+// Whether a group that keeps n channels is answered in place of the best of those before it.
+fn is_better(n: u32, best: Option<(u16, u32)>) -> bool
+    ensures { result ≡ (nat_le 2 n && wins n best) }
+{
+    n >= 2 && best.is_none_or(|(_, least)| n < least)
+}
+
 #[derive(Clone, Copy)]
 pub struct FewestFirst;
 
@@ -62,7 +69,7 @@ impl Order for FewestFirst {
         let mut best: Option<(u16, u32)> = None;
         for (g, d) in domains.iter().enumerate() {
             let n = d.count_ones();
-            if n >= 2 && best.is_none_or(|(_, least)| n < least) {
+            if is_better(n, best) {
                 best = Some((g as u16, n));
             }
         }

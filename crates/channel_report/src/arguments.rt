@@ -1,5 +1,5 @@
 // What the arguments of the program choose.
-ghost use Rattle.std.specs.Prelude.{◌≤◌, IfSome};
+ghost use Rattle.std.specs.Prelude.{◌≡◌, ◌*◌, ◌≤◌, IfSome, IfOk};
 
 use planner::solve::{PROGRAM, Settings};
 use std::{env, fmt, io};
@@ -26,6 +26,8 @@ pub struct Options {
     pub moves: u32,
     pub order: GroupOrder,
     pub restarts: Restarts,
+    ghost least: { 1 ≤ moves },
+    ghost most: { moves ≤ 1000000 },
 }
 
 // What is wrong with the arguments.
@@ -84,7 +86,10 @@ fn named_policy(value: &str) -> Option<Restarts> {
 
 impl Options {
     // What the account of a job is searched with.
-    fn new() -> Options {
+    fn new() -> Options
+        ensures sittings { result.sittings ≡ 100 }
+        ensures moves { result.moves ≡ 10000 }
+    {
         Options {
             sittings: PROGRAM.sittings,
             moves: PROGRAM.allowance,
@@ -109,7 +114,9 @@ impl Options {
     }
 
     // The settings of the search, with a base as large as the account's.
-    pub fn settings(self) -> Settings {
+    pub fn settings(self) -> Settings
+        ensures { result ≡ record { base_words = 4096; sittings = self.sittings; allowance = self.moves } }
+    {
         Settings {
             base_words: PROGRAM.base_words,
             sittings: self.sittings,
@@ -119,7 +126,9 @@ impl Options {
 }
 
 // The options that the arguments choose, or what is wrong with them.
-pub fn read(rt: &HostRuntime) -> io::Result<Result<Options, Wrong>> {
+pub fn read(rt: &HostRuntime) -> io::Result<Result<Options, Wrong>>
+    ensures { IfOk result (λ r. IfOk r (λ o. o.sittings * o.moves ≤ 100000000)) }
+{
     let mut options = Options::new();
     let mut named: Option<String> = None;
     for word in env::args(rt)?.skip(1) {

@@ -1,6 +1,12 @@
 // The program: a job on standard input, the report of its search on standard output. Its options are in docs/REPORT.md.
 #![tactic(auto)]
 
+ghost use Rattle.std.specs.Prelude.{◌≡◌, ◌*◌, ◌<◌, ◌≤◌, Err, length, IfOk};
+ghost use Rattle.rules.specs.declared.refusal.Refusal.TheVariants.{NoPlace};
+ghost use Rattle.planner.specs.declared.error.PlanError.TheVariants.{Refused};
+ghost use Rattle.planner.specs.Answers.{RefusedAsLoaded};
+ghost use Rattle.channel_report.specs.Chosen.{ByPolicy, ByOrder};
+
 mod arguments;
 
 use arguments::{GroupOrder, Options, Restarts, read};
@@ -20,7 +26,10 @@ fn explain_by<O: Order>(
     job: &[u8],
     order: &mut O,
     options: Options,
-) -> Result<Report, PlanError> {
+) -> Result<Report, PlanError>
+    ensures reports { IfOk result (ByPolicy job.now options O.Order.meaning (O.Order.held order.old) options.restarts) }
+    ensures refused { options.sittings * options.moves ≤ 100000000 → RefusedAsLoaded job.now result }
+{
     match options.restarts {
         Restarts::Geometric => {
             explain(heap, job, order, &mut Geometric::new(), options.settings())
@@ -36,7 +45,11 @@ fn explain_by<O: Order>(
 }
 
 // The report by the order and the policy that were chosen.
-fn explain_as_told(heap: Global, job: &[u8], options: Options) -> Result<Report, PlanError> {
+fn explain_as_told(heap: Global, job: &[u8], options: Options) -> Result<Report, PlanError>
+    ensures long { 65536 < length job.now → result ≡ Err (Refused (NoPlace 65536)) }
+    ensures reports { IfOk result (ByOrder job.now options options.order) }
+    ensures refused { length job.now ≤ 65536 → options.sittings * options.moves ≤ 100000000 → RefusedAsLoaded job.now result }
+{
     if job.len() > LONGEST_JOB {
         return Err(PlanError::Refused(Refusal::NoPlace(LONGEST_JOB)));
     }

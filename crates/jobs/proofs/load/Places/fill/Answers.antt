@@ -1,4 +1,4 @@
-use Rattle.std.proofs.Common.{◌∙◌, suc}
+use Rattle.std.proofs.Common.{rules, ◌∙◌, suc}
 use Rattle.jobs.proofs.Steps.{stepped}
 use Rattle.jobs.proofs.Fills.{filling_more}
 use Rattle.jobs.proofs.load.Places.fill.Goals as goal
@@ -10,8 +10,8 @@ loop-item-preserved c =
     record {
       job = h.1.2 ∙ i.job;
       room = h.1.3 ∙ i.room;
-      lists = c.put.ensures.lists ∙ i.lists;
-      gaps = c.put.ensures.gaps ∙ i.gaps;
-      tables = c.put.ensures.tables ∙ i.tables;
-      filling = (suc i.filling.0, filling_more _ _ _ _ _ _ _ _ i.filling.1 (stepped _ _ _ _ _ _ _ i.job i.room h.0 h.1.0 h.1.1) c.put.ensures.places);
+      lists = search rules;
+      gaps = search rules;
+      tables = search rules;
+      filling = (suc i.filling.0, filling_more _ _ _ _ _ _ _ _ i.filling.1 (stepped _ _ _ _ _ _ _ i.job i.room h.0 h.1.0 h.1.1) (search rules));
     }
