@@ -1,5 +1,5 @@
 -- A job in the making. Assumes nothing.
-use Rattle.std.specs.Prelude.{◌≡◌, ℕ, ◌+◌, ◌-◌, ◌*◌, ◌^◌, ◌⊎◌, cond, List, [], ◌∷◌, ◌++◌, length, take, drop, replicate, Some, None, Option, Result, MatchResult, ◌==◌, nat_lt, bit_or, vec_items}
+use Rattle.std.specs.Prelude.{◌≡◌, ℕ, ◌+◌, ◌-◌, ◌*◌, ◌^◌, ◌⊎◌, cond, List, [], ◌∷◌, ◌++◌, length, take, drop, replicate, Some, None, Option, Ok, Err, Result, MatchResult, ◌==◌, nat_lt, bit_or, vec_items}
 use Rattle.std.specs.Int.{to_be_bytes, w64}
 use Rattle.std.specs.List.{slice_split}
 use Rattle.std.specs.Str.{IsUtf8}
@@ -7,10 +7,12 @@ use Rattle.rules.specs.Channels.{has}
 use Rattle.jobs.specs.declared.item.Item.{Item}
 use Rattle.jobs.specs.declared.item.Item.TheVariants.{Channels, Near, Rows}
 use Rattle.text.specs.declared.fault.Wrong.{Wrong}
-use Rattle.text.specs.declared.fault.Wrong.TheVariants.{NoTable, SecondRow, TooMany, NoMemory}
+use Rattle.text.specs.declared.fault.Lack.{Lack}
+use Rattle.text.specs.declared.fault.Wrong.TheVariants.{Lacks, NoTable, SecondRow, NotText, TooMany, NoMemory}
 use Rattle.text.specs.declared.line.Line.{Line}
 use Rattle.text.specs.declared.line.Line.TheVariants.{Blank, Group, Gap, Table, Row}
 use Rattle.text.specs.declared.draft.Draft.{Draft}
+use Rattle.text.specs.Words.{missing}
 use Rattle.text.specs.Lines.{Told, told, IsLine}
 
 -- the items, the rows of the tables one table after another, and the set of rows that the last item was given, where it is a table
@@ -64,24 +66,24 @@ wrong m (Gap e) = full m
 wrong m (Table a b) = full m
 wrong m (Row c l) = row_wrong m.given c
 
--- what adding a line answers, and what it leaves: with a fault nothing is said of what is left
+-- what adding a line answers, and what it leaves: all as it was where the line does not fit, and anything where memory is wanting
 abbrev pub Adding : Made → Line → Result (Unit {0}) Wrong → Made → Type 0
-Adding m l r n = MatchResult r (λ _. (wrong m l ≡ None) × (n ≡ added m l)) (λ w. (w ≡ NoMemory) ⊎ (wrong m l ≡ Some w))
+Adding m l r n = MatchResult r (λ _. (wrong m l ≡ None) × (n ≡ added m l)) (λ w. (w ≡ NoMemory) ⊎ ((wrong m l ≡ Some w) × (n ≡ m)))
 
 -- a line that is taken in says an item, which is added
 pub record Takes (m : Made) (w : List ℕ) (n : Made) : Type 0 where
   pub says : Told
   pub line : Line
-  pub said : told w ≡ Some says
+  pub said : told w ≡ Ok says
   pub means : IsLine says line
   pub fits : wrong m line ≡ None
   pub adds : n ≡ added m line
 
--- why a line is not taken in: it is no text, or says nothing, or what it says is not added, or there is no memory
+-- why a line is not taken in: it is no text, or misses something, or what it says is not added, or there is no memory
 pub data Refuses (m : Made) (w : List ℕ) (x : Wrong) : Type 0 where
-  no_text : ¬ (IsUtf8 w) → Refuses m w x
-  no_item : told w ≡ None → Refuses m w x
-  not_added : (t : Told) (l : Line) → told w ≡ Some t → IsLine t l → wrong m l ≡ Some x → Refuses m w x
+  no_text : ¬ (IsUtf8 w) → x ≡ NotText → Refuses m w x
+  no_item : (l : Lack) → told w ≡ Err (missing l) → x ≡ Lacks l → Refuses m w x
+  not_added : (t : Told) (l : Line) → told w ≡ Ok t → IsLine t l → wrong m l ≡ Some x → Refuses m w x
   no_memory : x ≡ NoMemory → Refuses m w x
 
 -- the lines of a text, the byte 10 between them

@@ -1,6 +1,6 @@
 // Why a text is no job: the line, and what is wrong there.
 ghost use Rattle.std.specs.Prelude.{◌≡◌};
-ghost use Rattle.text.specs.declared.fault.Wrong.TheVariants.{NoMemory};
+ghost use Rattle.text.specs.declared.fault.Wrong.TheVariants.{Lacks, NoMemory};
 
 use std::alloc::{AllocError, AllocFailed};
 use std::fmt;
@@ -22,11 +22,18 @@ pub enum Expected {
     End,
 }
 
+// What a line misses: what is expected, and what stands there; the text is empty where nothing does.
+#[derive(Clone, Copy)]
+pub struct Lack<'t> {
+    pub expected: Expected,
+    pub found: &'t str,
+}
+
 // What is wrong with a line.
 #[derive(Clone, Copy)]
 pub enum Wrong<'t> {
-    // Something else stands where this is expected; the text is empty where nothing does.
-    Found(Expected, &'t str),
+    // It says no item.
+    Lacks(Lack<'t>),
     // A row stands before any table, or behind a group or a gap.
     NoTable,
     // The table has the row of this channel already.
@@ -47,6 +54,14 @@ pub struct TextFault<'t> {
 }
 
 // The conversions are by hand, since contracts read what `from_gives` says.
+impl<'t> From<Lack<'t>> for Wrong<'t> {
+    ghost from_gives = { λ e w. w ≡ Lacks e };
+
+    fn from(e: Lack<'t>) -> Wrong<'t> {
+        Wrong::Lacks(e)
+    }
+}
+
 impl<'t> From<AllocError> for Wrong<'t> {
     ghost from_gives = { λ _ w. w ≡ NoMemory };
 
@@ -90,14 +105,22 @@ impl<'t> fmt::Display for Shown<'t> {
     }
 }
 
+impl<'t> fmt::Display for Lack<'t> {
+    fn fmt<W: fmt::Write>(&self, f: &mut fmt::Formatter<W>) -> fmt::Result {
+        let expected = self.expected;
+        if self.found.is_empty() {
+            write!(f, "expected {expected}, found nothing")
+        } else {
+            let shown = Shown(self.found);
+            write!(f, "expected {expected}, found `{shown}`")
+        }
+    }
+}
+
 impl<'t> fmt::Display for Wrong<'t> {
     fn fmt<W: fmt::Write>(&self, f: &mut fmt::Formatter<W>) -> fmt::Result {
         match *self {
-            Wrong::Found(expected, "") => write!(f, "expected {expected}, found nothing"),
-            Wrong::Found(expected, found) => {
-                let shown = Shown(found);
-                write!(f, "expected {expected}, found `{shown}`")
-            }
+            Wrong::Lacks(lack) => write!(f, "{lack}"),
             Wrong::NoTable => write!(f, "expected a table before this row"),
             Wrong::SecondRow(channel) => {
                 write!(f, "expected each row once, found row {channel} again")
