@@ -1,6 +1,8 @@
 // Why a text is no job: the line, and what is wrong there.
-ghost use Rattle.std.specs.Prelude.{◌≡◌};
+ghost use Rattle.std.specs.Prelude.{◌≡◌, Some};
+ghost use Rattle.std.specs.Fmt.{DisplaysOnOk};
 ghost use Rattle.text.specs.declared.fault.Wrong.TheVariants.{Lacks, NoMemory};
+ghost use Rattle.text.specs.Accounts.{shown_text};
 
 use std::alloc::{AllocError, AllocFailed};
 use std::fmt;
@@ -79,6 +81,10 @@ impl<'t, T: Drop> From<AllocFailed<T>> for Wrong<'t> {
 }
 
 impl fmt::Display for Expected {
+    ghost use Rattle.text.specs.Accounts.{expected_text};
+
+    ghost output = { λ e. Some (expected_text e) };
+
     fn fmt<W: fmt::Write>(&self, f: &mut fmt::Formatter<W>) -> fmt::Result {
         match self {
             Expected::Item => write!(f, "`group`, `gap`, `table` or a row"),
@@ -91,21 +97,34 @@ impl fmt::Display for Expected {
     }
 }
 
-// The front of what a line has, as far as one line of an account takes it.
+// Writes the front of a text, as far as one line of an account takes it.
+fn show<W: fmt::Write>(text: &str, f: &mut fmt::Formatter<W>) -> fmt::Result
+    ensures { DisplaysOnOk W.write_str_gives f.old result (Some (shown_text text.now)) f.new }
+{
+    for c in text.chars().take(40) {
+        let shown = if c.is_control() { '?' } else { c };
+        write!(f, "{shown}")?;
+    }
+    Ok(())
+}
+
+// The front of what a line has.
 #[derive(Clone, Copy)]
 struct Shown<'t>(&'t str);
 
 impl<'t> fmt::Display for Shown<'t> {
+    ghost output = { λ s. Some (shown_text s.0.now) };
+
     fn fmt<W: fmt::Write>(&self, f: &mut fmt::Formatter<W>) -> fmt::Result {
-        for c in self.0.chars().take(40) {
-            let shown = if c.is_control() { '?' } else { c };
-            write!(f, "{shown}")?;
-        }
-        Ok(())
+        show(self.0, f)
     }
 }
 
 impl<'t> fmt::Display for Lack<'t> {
+    ghost use Rattle.text.specs.Accounts.{lack_text};
+
+    ghost output = { λ l. Some (lack_text l) };
+
     fn fmt<W: fmt::Write>(&self, f: &mut fmt::Formatter<W>) -> fmt::Result {
         let expected = self.expected;
         if self.found.is_empty() {
@@ -118,6 +137,10 @@ impl<'t> fmt::Display for Lack<'t> {
 }
 
 impl<'t> fmt::Display for Wrong<'t> {
+    ghost use Rattle.text.specs.Accounts.{wrong_text};
+
+    ghost output = { λ w. Some (wrong_text w) };
+
     fn fmt<W: fmt::Write>(&self, f: &mut fmt::Formatter<W>) -> fmt::Result {
         match *self {
             Wrong::Lacks(lack) => write!(f, "{lack}"),
@@ -133,6 +156,10 @@ impl<'t> fmt::Display for Wrong<'t> {
 }
 
 impl<'t> fmt::Display for TextFault<'t> {
+    ghost use Rattle.text.specs.Accounts.{text_fault_text};
+
+    ghost output = { λ f. Some (text_fault_text f) };
+
     fn fmt<W: fmt::Write>(&self, f: &mut fmt::Formatter<W>) -> fmt::Result {
         let line = self.line;
         let wrong = self.wrong;

@@ -1,5 +1,5 @@
 // The bytes of a job written as text.
-ghost use Rattle.std.specs.Prelude.{◌≡◌, ◌≢◌, ℕ, ◌+◌, ◌*◌, ◌≤◌, ◌⊎◌, ◌++◌, List, length, None, codes, string_bytes, OnOk, MatchOption, MatchResult};
+ghost use Rattle.std.specs.Prelude.{◌≡◌, ◌≢◌, ℕ, ◌+◌, ◌*◌, ◌≤◌, ◌⊎◌, ◌++◌, List, length, None, codes, string_bytes, Some, OnOk, MatchOption, MatchResult};
 ghost use Rattle.rules.specs.Tables.{number, row as row_at};
 ghost use Rattle.jobs.specs.Records.{kind, unread, Shows, Sized};
 ghost use Rattle.jobs.specs.Jobs.{Accepts};
@@ -42,6 +42,10 @@ impl From<AllocError> for WriteFault {
 }
 
 impl fmt::Display for WriteFault {
+    ghost use Rattle.text.specs.Accounts.{write_fault_text};
+
+    ghost output = { λ f. Some (write_fault_text f) };
+
     fn fmt<W: fmt::Write>(&self, f: &mut fmt::Formatter<W>) -> fmt::Result {
         match *self {
             WriteFault::Refused(fault) => {
