@@ -1,5 +1,5 @@
 -- What an answer has to do with its job.
-use Rattle.std.specs.Prelude.{◌≡◌, ℕ, ◌*◌, ◌&&◌, ◌⊎◌, List, [], ◌∷◌, ◌++◌, nat_le, length, take, replicate, Some, None as Nothing, Ok, Err, Result, vec_items, vec_len}
+use Rattle.std.specs.Prelude.{◌≡◌, ℕ, ◌*◌, false, ◌&&◌, ◌⊎◌, List, [], ◌∷◌, ◌++◌, nat_le, length, take, replicate, Some, None as Nothing, Ok, Err, Result, vec_items, vec_len}
 use Rattle.jobs.specs.declared.fault.LoadFault.{LoadFault}
 use Rattle.jobs.specs.Jobs.{after, Accepts}
 use Rattle.jobs.specs.Books.{book_of}
@@ -45,6 +45,16 @@ Shaped n Open = Unit {0}
 abbrev pub Roomy : ℕ → ℕ → Memory → Type 0
 Roomy groups rules m =
     (vec_len m.domains ≡ groups) × (vec_len m.branch ≡ 64 * groups) × (vec_len m.marks ≡ 256) × (vec_len m.ends ≡ 2 * rules) × (vec_len m.settled ≡ groups)
+
+-- nothing stands in any region yet
+pub record Zeroed (m : Memory) : Type 0 where
+  pub domains : vec_items m.domains ≡ replicate (vec_len m.domains) 0
+  pub branch : vec_items m.branch ≡ replicate (vec_len m.branch) 0
+  pub plan : vec_items m.plan ≡ replicate (vec_len m.plan) 0
+  pub base : vec_items m.base ≡ replicate (vec_len m.base) 0
+  pub marks : vec_items m.marks ≡ replicate (vec_len m.marks) 0
+  pub ends : vec_items m.ends ≡ replicate (vec_len m.ends) (record { rule = 0; second = false })
+  pub settled : vec_items m.settled ≡ replicate (vec_len m.settled) (record { group = 0; channel = 0 })
 
 -- each region is as long as it was
 pub record Kept (r s : Memory) : Type 0 where

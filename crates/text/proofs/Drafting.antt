@@ -18,7 +18,7 @@ same_made xs ys rs ss g e f = rw (e, f) refl
 -- adding what a line says takes the line in, or refuses it
 pub add_is : (m : Made) (w s : List ℕ) (l : Line) (r : Result (Unit {0}) Wrong) (n : Made) → s ≡ w → (t : Told) × (told s ≡ Ok t) × IsLine t l → Adding m l r n → MatchResult r (λ _. Takes m w n) (λ x. Refuses m w x)
 add_is m w s l (Ok u) n e t a = record { says = t.0; line = l; said = ap told (sym e) ∙ t.1; means = t.2; fits = a.0; adds = a.1 }
-add_is m w s l (Err x) n e t a = elim a as (λ _. Refuses m w x) [ inl h ↦ no_memory h | inr h ↦ not_added t.0 l (ap told (sym e) ∙ t.1) t.2 h.0 ]
+add_is m w s l (Err x) n e t a = elim a as (λ _. Refuses m w x) [ inl h ↦ no_memory t.0 l (ap told (sym e) ∙ t.1) t.2 h | inr h ↦ not_added t.0 l (ap told (sym e) ∙ t.1) t.2 h.0 ]
 
 -- a line that misses something is refused for it
 pub lacks_is : (m : Made) (w s : List ℕ) (l : Lack) (r : Result (Unit {0}) Wrong) (n : Made) → s ≡ w → told s ≡ Err (missing l) → IsErrAnd r (λ x. x ≡ Lacks l) → MatchResult r (λ _. Takes m w n) (λ x. Refuses m w x)

@@ -1,5 +1,5 @@
 -- A job in the making. Assumes nothing.
-use Rattle.std.specs.Prelude.{◌≡◌, ℕ, ◌+◌, ◌-◌, ◌*◌, ◌^◌, ◌⊎◌, cond, List, [], ◌∷◌, ◌++◌, length, take, drop, replicate, Some, None, Option, Ok, Err, Result, MatchResult, ◌==◌, nat_lt, bit_or, vec_items}
+use Rattle.std.specs.Prelude.{◌≡◌, ℕ, ◌+◌, ◌-◌, ◌*◌, ◌^◌, ◌⊎◌, Bool, true, false, cond, List, [], ◌∷◌, ◌++◌, length, take, drop, replicate, Some, None, Option, Ok, Err, Result, MatchResult, ◌==◌, nat_lt, bit_or, vec_items}
 use Rattle.std.specs.Int.{to_be_bytes, w64}
 use Rattle.std.specs.List.{slice_split}
 use Rattle.std.specs.Str.{IsUtf8}
@@ -66,9 +66,20 @@ wrong m (Gap e) = full m
 wrong m (Table a b) = full m
 wrong m (Row c l) = row_wrong m.given c
 
+-- memory may be wanting for a line that adds an item, where it fits
+abbrev pub adds_item : Line → Bool
+adds_item Blank = false
+adds_item (Group l) = true
+adds_item (Gap e) = true
+adds_item (Table a b) = true
+adds_item (Row c l) = false
+
+abbrev pub MayWant : Made → Line → Wrong → Type 0
+MayWant m l w = (w ≡ NoMemory) × (adds_item l ≡ true) × (wrong m l ≡ None)
+
 -- what adding a line answers, and what it leaves: all as it was where the line does not fit, and anything where memory is wanting
 abbrev pub Adding : Made → Line → Result (Unit {0}) Wrong → Made → Type 0
-Adding m l r n = MatchResult r (λ _. (wrong m l ≡ None) × (n ≡ added m l)) (λ w. (w ≡ NoMemory) ⊎ ((wrong m l ≡ Some w) × (n ≡ m)))
+Adding m l r n = MatchResult r (λ _. (wrong m l ≡ None) × (n ≡ added m l)) (λ w. MayWant m l w ⊎ ((wrong m l ≡ Some w) × (n ≡ m)))
 
 -- a line that is taken in says an item, which is added
 pub record Takes (m : Made) (w : List ℕ) (n : Made) : Type 0 where
@@ -84,7 +95,7 @@ pub data Refuses (m : Made) (w : List ℕ) (x : Wrong) : Type 0 where
   no_text : ¬ (IsUtf8 w) → x ≡ NotText → Refuses m w x
   no_item : (l : Lack) → told w ≡ Err (missing l) → x ≡ Lacks l → Refuses m w x
   not_added : (t : Told) (l : Line) → told w ≡ Ok t → IsLine t l → wrong m l ≡ Some x → Refuses m w x
-  no_memory : x ≡ NoMemory → Refuses m w x
+  no_memory : (t : Told) (l : Line) → told w ≡ Ok t → IsLine t l → MayWant m l x → Refuses m w x
 
 -- the lines of a text, the byte 10 between them
 abbrev pub lines : List ℕ → List (List ℕ)

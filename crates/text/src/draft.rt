@@ -45,7 +45,7 @@ impl Draft {
 
     // Adds an item.
     fn add_item(&mut self, item: Item) -> Result<(), Wrong<'static>>
-        ensures items { MatchResult result (λ _. (full (made self.old) ≡ None) × (self.new.items.items ≡ self.old.items.items ++ item ∷ [])) (λ w. (w ≡ Wrong.NoMemory) ⊎ ((full (made self.old) ≡ Some w) × (self.new.items.items ≡ self.old.items.items))) }
+        ensures items { MatchResult result (λ _. (full (made self.old) ≡ None) × (self.new.items.items ≡ self.old.items.items ++ item ∷ [])) (λ w. ((w ≡ Wrong.NoMemory) × (full (made self.old) ≡ None)) ⊎ ((full (made self.old) ≡ Some w) × (self.new.items.items ≡ self.old.items.items))) }
         ensures rows { self.new.rows.items ≡ self.old.rows.items }
         ensures given { self.new.given ≡ self.old.given }
     {
@@ -58,7 +58,7 @@ impl Draft {
 
     // Adds a group or a gap.
     fn add_plain(&mut self, item: Item) -> Result<(), Wrong<'static>>
-        ensures { MatchResult result (λ _. (full (made self.old) ≡ None) × (made self.new ≡ with_item (made self.old) item)) (λ w. (w ≡ Wrong.NoMemory) ⊎ ((full (made self.old) ≡ Some w) × (made self.new ≡ made self.old))) }
+        ensures { MatchResult result (λ _. (full (made self.old) ≡ None) × (made self.new ≡ with_item (made self.old) item)) (λ w. ((w ≡ Wrong.NoMemory) × (full (made self.old) ≡ None)) ⊎ ((full (made self.old) ≡ Some w) × (made self.new ≡ made self.old))) }
     {
         self.add_item(item)?;
         self.given = None;

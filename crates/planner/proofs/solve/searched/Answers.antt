@@ -1,4 +1,4 @@
-use Rattle.std.proofs.Common.{◌≡◌, ℕ, ◌*◌, List, length, take, vec_items, vec_len, sym, ap, ◌∙◌, subst, arith}
+use Rattle.std.proofs.Common.{◌≡◌, ℕ, ◌*◌, List, length, take, replicate, vec_items, vec_len, sym, ap, ◌∙◌, subst, arith}
 use Rattle.std.proofs.lemmas.List.{take_all}
 use Rattle.jobs.specs.Jobs.{after}
 use Rattle.jobs.specs.Books.{book_of}
@@ -57,7 +57,7 @@ returns g c =
     let verdict : reached (take (length lists) (vec_items left.plan)) sat ≡ reached (vec_items left.plan) sat =
     ap (λ (xs : List ℕ). reached xs sat) (take_all (length lists) (vec_items left.plan) (omega arith)) in
     let came = came_home _ _ _ (book_of bs job) lists job.lists c.in_ok-search.search c.args.settings _ _ _ _ sat (reached (vec_items left.plan) sat) memory left
-    c.in_ok-search.ensures c.in_ok-sat.ensures.sat book own new.base verdict new.zeros in
+    c.in_ok-search.ensures c.in_ok-sat.ensures.sat book own new.base verdict (new.zeros.base ∙ ap (λ (n : ℕ). replicate n 0) new.base) in
     record {
       job = st.0;
       accepts = st.1;
