@@ -28,8 +28,8 @@ abbrev pub made : Draft → Made
 made d = record { items = vec_items d.items; rows = vec_items d.rows; given = d.given }
 
 -- with one item more
-abbrev pub with_item : Made → Item → Made
-with_item m x = record { items = m.items ++ (x ∷ []); rows = m.rows; given = None }
+abbrev pub with_item : Made → Item → Option ℕ → Made
+with_item m x given = record { items = m.items ++ (x ∷ []); rows = m.rows; given = given }
 
 -- some bytes in place of as many from a place on
 abbrev pub replaced : List ℕ → ℕ → List ℕ → List ℕ
@@ -46,8 +46,8 @@ row_added (Some g) m c set = with_row m g c set
 -- what a line adds
 abbrev pub added : Made → Line → Made
 added m Blank = m
-added m (Group l) = with_item m (Channels l)
-added m (Gap e) = with_item m (Near e)
+added m (Group l) = with_item m (Channels l) None
+added m (Gap e) = with_item m (Near e) None
 added m (Table a b) = record { items = m.items ++ (Rows (record { first = a; second = b; offset = length m.rows }) ∷ []); rows = m.rows ++ replicate 512 0; given = Some 0 }
 added m (Row c l) = row_added m.given m c l
 
@@ -74,12 +74,16 @@ adds_item (Gap e) = true
 adds_item (Table a b) = true
 adds_item (Row c l) = false
 
-abbrev pub MayWant : Made → Line → Wrong → Type 0
-MayWant m l w = (w ≡ NoMemory) × (adds_item l ≡ true) × (wrong m l ≡ None)
+abbrev pub Wants : Bool → Option Wrong → Wrong → Type 0
+Wants grows due w = (w ≡ NoMemory) × (grows ≡ true) × (due ≡ None)
 
--- what adding a line answers, and what it leaves: all as it was where the line does not fit, and anything where memory is wanting
+-- a try to make x of m: it comes about where nothing is due, and for what is due all stays as it was; where memory is wanting nothing is said of what is left
+abbrev pub Tried : Bool → Option Wrong → Made → Made → Result (Unit {0}) Wrong → Made → Type 0
+Tried grows due m x r n = MatchResult r (λ _. (due ≡ None) × (n ≡ x)) (λ w. Wants grows due w ⊎ ((due ≡ Some w) × (n ≡ m)))
+
+-- what adding a line answers, and what it leaves
 abbrev pub Adding : Made → Line → Result (Unit {0}) Wrong → Made → Type 0
-Adding m l r n = MatchResult r (λ _. (wrong m l ≡ None) × (n ≡ added m l)) (λ w. MayWant m l w ⊎ ((wrong m l ≡ Some w) × (n ≡ m)))
+Adding m l r n = Tried (adds_item l) (wrong m l) m (added m l) r n
 
 -- a line that is taken in says an item, which is added
 pub record Takes (m : Made) (w : List ℕ) (n : Made) : Type 0 where
@@ -95,7 +99,7 @@ pub data Refuses (m : Made) (w : List ℕ) (x : Wrong) : Type 0 where
   no_text : ¬ (IsUtf8 w) → x ≡ NotText → Refuses m w x
   no_item : (l : Lack) → told w ≡ Err (missing l) → x ≡ Lacks l → Refuses m w x
   not_added : (t : Told) (l : Line) → told w ≡ Ok t → IsLine t l → wrong m l ≡ Some x → Refuses m w x
-  no_memory : (t : Told) (l : Line) → told w ≡ Ok t → IsLine t l → MayWant m l x → Refuses m w x
+  no_memory : (t : Told) (l : Line) → told w ≡ Ok t → IsLine t l → Wants (adds_item l) (wrong m l) x → Refuses m w x
 
 -- the lines of a text, the byte 10 between them
 abbrev pub lines : List ℕ → List (List ℕ)
