@@ -22,11 +22,11 @@ use Rattle.jobs.proofs.Binds.{book_binds}
 pub none≢some : {X : Type 0} (o : Option X) (x : X) → o ≡ None → o ≡ Some x → ⊥
 none≢some o x p q = let z : ◌≡◌ {A = ℕ} 0 1 = cc in omega arith
 
-passes : (b : Bool) (n : ℕ) → b ≡ true → unless b n ≡ None
+pub passes : (b : Bool) (n : ℕ) → b ≡ true → unless b n ≡ None
 passes b n e = ap (λ (x : Bool). unless x n) e
 
 -- Where no check fails there is no refusal.
-none_fails : (rs : List Refusal) → AllByRecursion (λ r. r ≡ None) rs → first_of rs ≡ None
+pub none_fails : (rs : List Refusal) → AllByRecursion (λ r. r ≡ None) rs → first_of rs ≡ None
 none_fails [] h = refl
 none_fails (r ∷ rs) h = rw (h.0) (none_fails rs h.1)
 

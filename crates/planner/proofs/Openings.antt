@@ -1,6 +1,8 @@
 -- From the opening of a search on a loaded job on.
-use Rattle.std.proofs.Common.{◌≡◌, ℕ, zero, suc, ◌+◌, ◌*◌, List, [], length, take, replicate, None, Option, Ok, Err, Result, MatchResult, IsErrAnd, sym, refl, ap, ◌∙◌, subst, vec_items, vec_len, inl, inr, arith}
+use Rattle.std.proofs.Common.{◌≡◌, ℕ, zero, suc, ◌+◌, ◌*◌, leb, ◌&&◌, ◌∷◌, List, [], length, take, replicate, None, Option, Ok, Err, Result, MatchResult, IsErrAnd, sym, refl, ap, ◌∙◌, subst, vec_items, vec_len, inl, inr, arith}
 use Rattle.std.proofs.lemmas.List.{take_all}
+use Rattle.std.proofs.lemmas.Bool.{and_from, le-leb}
+use Rattle.laws.specs.Requests.{unless}
 use Rattle.rules.specs.Meanings.{Meaning}
 use Rattle.rules.specs.declared.refusal.Refusal.{Refusal}
 use Rattle.rules.specs.declared.gap.GapEntry.{GapEntry}
@@ -37,8 +39,8 @@ use Rattle.planner.specs.declared.store.Store.{Store}
 use Rattle.planner.specs.Stores.{places, Stored, Unstored}
 use Rattle.jobs.proofs.Binds.{book_binds}
 use Rattle.planner.specs.Sittings.{between, Ran}
-use Rattle.planner.specs.Answers.{Shaped, Roomy, over_limits, refusal_of, RefusedFor, StandsFor, Written, Clear, Ready, Comes, SatOn, Searched, reached, told_by, Answered, Unanswered, RefusedAsLoaded, program, program_order, AnsweredByProgram}
-use Rattle.planner.proofs.Accepting.{opens, none≢some}
+use Rattle.planner.specs.Answers.{Shaped, Roomy, over_limits, Accepted, refusal_of, RefusedFor, StandsFor, Written, Clear, Ready, Comes, SatOn, Searched, reached, told_by, Answered, Unanswered, RefusedAsLoaded, program, program_order, AnsweredByProgram}
+use Rattle.planner.proofs.Accepting.{passes, none_fails, opens, none≢some}
 
 -- The book of what was loaded.
 pub book_same : (bs : List ℕ) (s : Job) (n : Loaded) (gs : List GapEntry) (ts : List TableEntry) → n ≡ held s → gs ≡ s.gaps → ts ≡ s.tables → book_at bs n gs ts ≡ book_of bs s
@@ -170,9 +172,16 @@ module _ (bs : List ℕ) (m : Room) where
       let b : f.offset ≡ g.offset = t.placed ∙ (ap (λ (y : RecordFault). place (tally (after bs k)) y) a ∙ sym s.placed) in
       rw (a, b) refl
 
+-- Settings that are accepted are due no refusal.
+due_none : (s : Settings) → Accepted s → refusal_of s ≡ None
+due_none s z =
+    let allowance = and_from (leb 1 s.allowance) (leb s.allowance 1000000) (le-leb _ _ z.some) (le-leb _ _ z.most) in
+    none_fails (unless (leb s.base_words 65536) 10 ∷ unless (leb 1 s.allowance && leb s.allowance 1000000) 11 ∷ unless (leb (s.sittings * s.allowance) 100000000) 12 ∷ [])
+    (passes _ 10 (le-leb _ _ z.base), (passes _ 11 allowance, (passes _ 12 (le-leb _ _ z.moves), tt)))
+
 -- What is said of the answers decides which jobs are refused.
 module _ (bs : List ℕ) (settings : Settings) where
-  pub no_answer : {A : Type 0} (P : A → Type 0) (r : Result A PlanError) → MatchResult r P (Unanswered bs settings) → refusal_of settings ≡ None → ((a : A) → P a → (i : ℕ) × Accepts bs places i) → RefusedAsLoaded bs r
+  pub no_answer : {A : Type 0} (P : A → Type 0) (r : Result A PlanError) → MatchResult r P (Unanswered bs settings) → Accepted settings → ((a : A) → P a → (i : ℕ) × Accepts bs places i) → RefusedAsLoaded bs r
   no_answer P (Ok a) h z has = record {
     faulty = λ f x. absurd (apart bs places (has a h).0 (has a h).1 f x.0 x.1);
     faultless = λ i x. inr (a, refl);
@@ -182,10 +191,10 @@ module _ (bs : List ℕ) (settings : Settings) where
     faulty = λ f x. inr (e, refl, u.2 ∙ one_fault bs places u.0 f u.1.0 x.0 u.1.1 x.1);
     faultless = λ i x. absurd (apart bs places i x u.0 u.1.0 u.1.1);
   }
-  no_answer P (Err (Refused e)) (inr u) z has = absurd (none≢some _ _ z u.1)
+  no_answer P (Err (Refused e)) (inr u) z has = absurd (none≢some _ _ (due_none settings z) u.1)
 
   pub refused_as_loaded : {H Q : Type 0} (om : OrderMeaning H) (pm : PolicyMeaning Q) (h h' : H) (q q' : Q) (r : Result Answer PlanError) → MatchResult r (Answered om pm bs settings h h' q q') (Unanswered bs settings)
-      → refusal_of settings ≡ None → RefusedAsLoaded bs r
+      → Accepted settings → RefusedAsLoaded bs r
   refused_as_loaded om pm h h' q q' r x z = no_answer (Answered om pm bs settings h h' q q') r x z (λ a y. (y.0, y.1))
 
   pub unanswered : (e : PlanError) → Unstored bs e → Unanswered bs settings e
@@ -201,8 +210,8 @@ passed_on (Ok x) G P Q g f = absurd g
 passed_on (Err e) G P Q g f = f e g
 
 -- The program's settings are accepted.
-pub program_accepted : refusal_of program ≡ None
-program_accepted = refl
+pub program_accepted : Accepted program
+program_accepted = record { base = omega arith; some = omega arith; most = omega arith; moves = omega arith }
 
 -- So its answers are never refusals of a call.
 pub by_program : (bs : List ℕ) (h h' : Layer (Unit {0})) (q q' : ℕ) (r : Result Answer PlanError) → h ≡ program_order → q ≡ 10 → MatchResult r (Answered (last_conflict fewest_first) geometric bs program h h' q q') (Unanswered bs program)
@@ -210,7 +219,7 @@ pub by_program : (bs : List ℕ) (h h' : Layer (Unit {0})) (q q' : ℕ) (r : Res
 by_program bs h h' q q' (Ok a) e f x = (h', q', rw (e, f) at x)
 by_program bs h h' q q' (Err NoMemory) e f x = tt
 by_program bs h h' q q' (Err (Refused y)) e f (inl u) = u
-by_program bs h h' q q' (Err (Refused y)) e f (inr u) = absurd (none≢some _ _ program_accepted u.1)
+by_program bs h h' q q' (Err (Refused y)) e f (inr u) = absurd (none≢some _ _ (due_none program program_accepted) u.1)
 
 pub begins_with : (limit : ℕ) (kept : List ℕ) (candidate : Option ℕ) → limit ≡ 1 → kept ≡ [] → candidate ≡ None
     → ◌≡◌ {A = Layer (Unit {0})} (record { limit = limit; kept = kept; candidate = candidate; below = tt }) program_order

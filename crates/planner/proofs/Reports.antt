@@ -1,5 +1,5 @@
 -- From what a search left to its report.
-use Rattle.std.proofs.Common.{◌≡◌, ℕ, ◌*◌, ◌<◌, ◌≤◌, List, ◌++◌, length, take, replicate, None, Ok, Err, Result, MatchResult, IfOk, IsOkUnless, refl, sym, ap, ◌∙◌, subst, vec_items, vec_len, arith}
+use Rattle.std.proofs.Common.{◌≡◌, ℕ, ◌*◌, ◌<◌, ◌≤◌, List, ◌++◌, length, take, replicate, Ok, Err, Result, MatchResult, IfOk, IsOkUnless, refl, sym, ap, ◌∙◌, subst, vec_items, vec_len, arith}
 use Rattle.std.proofs.lemmas.List.{length-append}
 use Rattle.std.proofs.Math.Seq.{take-append_seam}
 use Rattle.branching.specs.Order.{OrderMeaning}
@@ -24,7 +24,7 @@ use Rattle.planner.specs.declared.memory.Memory.{Memory}
 use Rattle.planner.specs.declared.report.Report.{Report}
 use Rattle.planner.specs.declared.solve.Settings.{Settings}
 use Rattle.planner.specs.Stores.{places}
-use Rattle.planner.specs.Answers.{refusal_of, Searched, Unanswered, RefusedAsLoaded, reached}
+use Rattle.planner.specs.Answers.{Accepted, Searched, Unanswered, RefusedAsLoaded, reached}
 use Rattle.planner.specs.Reports.{Tells, Reported}
 use Rattle.planner.proofs.Openings.{answered, no_answer}
 
@@ -76,5 +76,5 @@ module _ {H Q : Type 0} (om : OrderMeaning H) (pm : PolicyMeaning Q) (bs : List 
     told_of (Ok r) k e = reported r k
     told_of (Err f) k e = subst (λ (y : PlanError). Unanswered bs settings y) (sym e) tt
 
-  pub reported_as_loaded : (r : Result Report PlanError) → MatchResult r (Reported om pm bs settings h h' q q') (Unanswered bs settings) → refusal_of settings ≡ None → RefusedAsLoaded bs r
+  pub reported_as_loaded : (r : Result Report PlanError) → MatchResult r (Reported om pm bs settings h h' q q') (Unanswered bs settings) → Accepted settings → RefusedAsLoaded bs r
   reported_as_loaded r x z = no_answer bs settings (Reported om pm bs settings h h' q q') r x z (λ a y. (y.0.0, y.0.1))

@@ -1,5 +1,5 @@
 -- What an answer has to do with its job.
-use Rattle.std.specs.Prelude.{◌≡◌, ℕ, ◌*◌, false, ◌&&◌, ◌⊎◌, List, [], ◌∷◌, ◌++◌, nat_le, length, take, replicate, Some, None as Nothing, Ok, Err, Result, vec_items, vec_len}
+use Rattle.std.specs.Prelude.{◌≡◌, ℕ, ◌*◌, ◌≤◌, false, ◌&&◌, ◌⊎◌, List, [], ◌∷◌, ◌++◌, nat_le, length, take, replicate, Some, None as Nothing, Ok, Err, Result, vec_items, vec_len}
 use Rattle.jobs.specs.declared.fault.LoadFault.{LoadFault}
 use Rattle.jobs.specs.Jobs.{after, Accepts}
 use Rattle.jobs.specs.Books.{book_of}
@@ -106,6 +106,13 @@ over_limits base allowance moves =
 -- Which refusal settings are due, if any.
 abbrev pub refusal_of : Settings → Due
 refusal_of s = over_limits s.base_words s.allowance (s.sittings * s.allowance)
+
+-- Settings that are due none.
+pub record Accepted (s : Settings) : Type 0 where
+  pub base : s.base_words ≤ 65536
+  pub some : 1 ≤ s.allowance
+  pub most : s.allowance ≤ 1000000
+  pub moves : s.sittings * s.allowance ≤ 100000000
 
 -- An error is the refusal that is due.
 abbrev pub RefusedFor : Due → PlanError → Type 0

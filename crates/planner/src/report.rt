@@ -1,11 +1,11 @@
 // The report of a search: its account, what it closed and its decisions in hand, as text.
-ghost use Rattle.std.specs.Prelude.{◌≡◌, ◌*◌, ◌≤◌, ◌++◌, length, vec_len, vec_items, Some, None, IfOk, IsOkUnless, MatchResult};
+ghost use Rattle.std.specs.Prelude.{◌≡◌, ◌*◌, ◌≤◌, ◌++◌, length, vec_len, vec_items, Some, IfOk, IsOkUnless, MatchResult};
 ghost use Rattle.model.specs.Decisions.{reduced};
 ghost use Rattle.std.specs.List.{flat_map};
 ghost use Rattle.model.specs.Words.{decision, base_of, branch_of, recorded};
 ghost use Rattle.search.specs.Ends.{came_to};
 ghost use Rattle.planner.specs.declared.error.PlanError.TheVariants.{NoMemory};
-ghost use Rattle.planner.specs.Answers.{refusal_of, Unanswered, RefusedAsLoaded};
+ghost use Rattle.planner.specs.Answers.{Accepted, Unanswered, RefusedAsLoaded};
 ghost use Rattle.planner.specs.Reports.{Tells, Reported};
 ghost use Rattle.planner.specs.Accounts.{assigned_text, listed_text, closed_text, decided_text, none_text};
 
@@ -73,7 +73,7 @@ pub fn explain<O: Order, P: RestartPolicy>(
     settings: Settings,
 ) -> Result<Report, PlanError>
     ensures reports { MatchResult result (Reported O.meaning P.meaning job.now settings (O.held order.old) (O.held order.new) (P.held policy.old) (P.held policy.new)) (Unanswered job.now settings) }
-    ensures refused { refusal_of settings ≡ None → RefusedAsLoaded job.now result }
+    ensures refused { Accepted settings → RefusedAsLoaded job.now result }
 {
     let (memory, sat) = searched(heap, job, order, policy, settings)?;
     told(heap, memory, sat)

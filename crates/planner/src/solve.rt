@@ -1,8 +1,8 @@
 // The search for a plan of a job: its memory, its sittings and its answer.
-ghost use Rattle.std.specs.Prelude.{◌≡◌, ◌<◌, ◌≤◌, ◌+◌, ◌*◌, length, vec_len, None, IfOk, IfErr, Err, MatchResult};
+ghost use Rattle.std.specs.Prelude.{◌≡◌, ◌<◌, ◌≤◌, ◌+◌, ◌*◌, length, vec_len, IfOk, IfErr, Err, MatchResult};
 ghost use Rattle.rules.specs.declared.refusal.Refusal.TheVariants.{NoPlace};
 ghost use Rattle.planner.specs.declared.error.PlanError.TheVariants.{Refused};
-ghost use Rattle.planner.specs.Answers.{Kept, over_limits, refusal_of, RefusedFor, Ready, SatOn, Searched, Answered, Unanswered, RefusedAsLoaded, AnsweredByProgram};
+ghost use Rattle.planner.specs.Answers.{Kept, over_limits, Accepted, RefusedFor, Ready, SatOn, Searched, Answered, Unanswered, RefusedAsLoaded, AnsweredByProgram};
 ghost use Rattle.planner.specs.Stores.{Unstored};
 
 use crate::answer::Answer;
@@ -86,7 +86,7 @@ pub fn solve<O: Order, P: RestartPolicy>(
     settings: Settings,
 ) -> Result<Answer, PlanError>
     ensures answers { MatchResult result (Answered O.meaning P.meaning job.now settings (O.held order.old) (O.held order.new) (P.held policy.old) (P.held policy.new)) (Unanswered job.now settings) }
-    ensures refused { refusal_of settings ≡ None → RefusedAsLoaded job.now result }
+    ensures refused { Accepted settings → RefusedAsLoaded job.now result }
 {
     let (memory, sat) = searched(heap, job, order, policy, settings)?;
     Ok(memory.answer(sat))
