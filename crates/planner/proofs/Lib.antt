@@ -4,3 +4,4 @@ pub mod Goings
 pub mod Openings
 pub mod Once
 pub mod Reports
+mod Accounts

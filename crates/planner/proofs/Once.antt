@@ -21,7 +21,7 @@ use Rattle.planner.specs.Answers.{Written, Comes, told_by, AnsweredOnce}
 module _ {H Q : Type 0} (om : OrderMeaning H) (pm : PolicyMeaning Q) where
   module _ (lists : List ℕ) (book : Meaning) (room allowance : ℕ) where
     one_sitting : (b : Between H Q) (v w : Verdict) (t u : Search) → SitsFrom om pm lists book room allowance b v t → SitsFrom om pm lists book room allowance b w u → (v ≡ w) × (t ≡ u)
-    one_sitting b v w t u s r = sits_once lists book (behaviour om b.order) (cutoffs pm b.policy) room allowance (begun b.state) v w t u s r
+    one_sitting b v w t u s r = sits_once lists book (behaviour om b.order) (cutoffs pm b.policy) room allowance (begun b.state) v w t u s.1 r.1
 
     ran_once : (n : ℕ) (b c d : Between H Q) (v w : Verdict) → Ran om pm lists book room allowance n b v c → Ran om pm lists book room allowance n b w d → (v ≡ w) × (c ≡ d)
     ran_once n b c d v w none_left none_left = (refl, refl)

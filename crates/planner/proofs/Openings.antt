@@ -1,6 +1,8 @@
 -- From the opening of a search on a loaded job on.
-use Rattle.std.proofs.Common.{◌≡◌, ℕ, zero, suc, ◌+◌, List, [], length, take, replicate, None, Option, Ok, Err, Result, MatchResult, IsErrAnd, sym, refl, ap, ◌∙◌, subst, vec_items, vec_len, inl, inr, arith}
+use Rattle.std.proofs.Common.{◌≡◌, ℕ, zero, suc, ◌+◌, ◌*◌, leb, ◌&&◌, ◌∷◌, List, [], length, take, replicate, None, Option, Ok, Err, Result, MatchResult, IsErrAnd, sym, refl, ap, ◌∙◌, subst, vec_items, vec_len, inl, inr, arith}
 use Rattle.std.proofs.lemmas.List.{take_all}
+use Rattle.std.proofs.lemmas.Bool.{and_from, le-leb}
+use Rattle.laws.specs.Requests.{unless}
 use Rattle.rules.specs.Meanings.{Meaning}
 use Rattle.rules.specs.declared.refusal.Refusal.{Refusal}
 use Rattle.rules.specs.declared.gap.GapEntry.{GapEntry}
@@ -37,8 +39,8 @@ use Rattle.planner.specs.declared.store.Store.{Store}
 use Rattle.planner.specs.Stores.{places, Stored, Unstored}
 use Rattle.jobs.proofs.Binds.{book_binds}
 use Rattle.planner.specs.Sittings.{between, Ran}
-use Rattle.planner.specs.Answers.{Shaped, Roomy, Accepted, StandsFor, Written, Clear, Ready, Comes, SatOn, Searched, reached, told_by, Answered, Unanswered, RefusedAsLoaded, program, program_order, AnsweredByProgram}
-use Rattle.planner.proofs.Accepting.{opens, none≢some}
+use Rattle.planner.specs.Answers.{Shaped, Roomy, over_limits, Accepted, refusal_of, RefusedFor, StandsFor, Written, Clear, Ready, Comes, SatOn, Searched, reached, told_by, Answered, Unanswered, RefusedAsLoaded, program, program_order, AnsweredByProgram}
+use Rattle.planner.proofs.Accepting.{passes, none_fails, opens, none≢some}
 
 -- The book of what was loaded.
 pub book_same : (bs : List ℕ) (s : Job) (n : Loaded) (gs : List GapEntry) (ts : List TableEntry) → n ≡ held s → gs ≡ s.gaps → ts ≡ s.tables → book_at bs n gs ts ≡ book_of bs s
@@ -48,13 +50,12 @@ length_branch_of : (ws : List ℕ) (n : ℕ) → length (branch_of ws n) ≡ n
 length_branch_of ws zero = refl
 length_branch_of ws (suc n) = ap suc (length_branch_of ws n)
 
--- A search just opened is ready for the sittings of accepted settings.
-pub opened_ready : (book : Meaning) (lists : List ℕ) (s : OpenSearch) → Opened book lists s → (settings : Settings) → Accepted settings → (m : Memory)
-    → Roomy (length lists) book.count m → vec_len m.plan ≡ length lists → vec_len m.base ≡ settings.base_words → Ready book lists settings.allowance settings.sittings s m
-opened_ready book lists s o settings z m roomy plan base =
+-- A search just opened is ready for sittings.
+pub opened_ready : (book : Meaning) (lists : List ℕ) (s : OpenSearch) → Opened book lists s → (allowance : ℕ) (m : Memory)
+    → Roomy (length lists) book.count m → vec_len m.plan ≡ length lists → Ready book lists allowance s m
+opened_ready book lists s o allowance m roomy plan =
     let branch = vec_items m.branch in
     let words = vec_items m.base in
-    let none_made : s.at.counts.moves ≡ 0 = ap (λ (t : State). t.moves) (o.state branch words) in
     record {
       stands = subst (λ (t : State). Run lists book unsettled t) (sym (o.state branch words)) o.begins.0;
       found = record {
@@ -71,11 +72,15 @@ opened_ready book lists s o settings z m roomy plan base =
       };
       roomy = roomy;
       plan = plan;
-      base = omega (arith, base, z.base);
-      some = z.some;
-      most = z.most;
-      moves = omega (arith, none_made, z.moves);
     }
+
+-- It has made no moves, so it is refused what the settings are.
+pub opened_refused : (book : Meaning) (lists : List ℕ) (s : OpenSearch) → Opened book lists s → (settings : Settings) (m : Memory) → vec_len m.base ≡ settings.base_words
+    → (e : PlanError) → RefusedFor (over_limits (vec_len m.base) settings.allowance (s.at.counts.moves + settings.sittings * settings.allowance)) e → RefusedFor (refusal_of settings) e
+opened_refused book lists s o settings m base e (r, is, x) =
+    let none_made : s.at.counts.moves ≡ 0 = ap (λ (t : State). t.moves) (o.state (vec_items m.branch) (vec_items m.base)) in
+    let made : s.at.counts.moves + settings.sittings * settings.allowance ≡ settings.sittings * settings.allowance = omega (arith, none_made) in
+    (r, is, rw (base, made) at x)
 
 -- Of a store that has what the job says.
 module _ (bs : List ℕ) (store : Store) (st : Stored bs store) (book : Meaning) (lists : List ℕ) (same_book : book ≡ book_of bs (after bs st.0)) (same_lists : lists ≡ (after bs st.0).lists) where
@@ -84,13 +89,13 @@ module _ (bs : List ℕ) (store : Store) (st : Stored bs store) (book : Meaning)
   open_taken e r = none≢some _ _ (rw (same_book, same_lists) (opens bs places st.0 st.1)) r
 
   -- And ready in the regions that are made for it.
-  pub new_ready : (s : OpenSearch) → Opened book lists s → (settings : Settings) → Accepted settings → (m : Memory) → vec_len m.plan ≡ vec_len store.lists → vec_len m.base ≡ settings.base_words
-      → Roomy (vec_len store.lists) (vec_len store.gaps + vec_len store.tables) m → Ready book lists settings.allowance settings.sittings s m
-  new_ready s o settings z m plan base roomy =
+  pub new_ready : (s : OpenSearch) → Opened book lists s → (allowance : ℕ) (m : Memory) → vec_len m.plan ≡ vec_len store.lists
+      → Roomy (vec_len store.lists) (vec_len store.gaps + vec_len store.tables) m → Ready book lists allowance s m
+  new_ready s o allowance m plan roomy =
       let groups : vec_len store.lists ≡ length lists = store.lists.ok.0 ∙ (ap length st.3 ∙ sym (ap length same_lists)) in
       let count : book.count ≡ length (after bs st.0).gaps + length (after bs st.0).tables = ap (λ (b : Meaning). b.count) same_book ∙ (book_binds bs places st.0 st.1).count in
       let rules : vec_len store.gaps + vec_len store.tables ≡ book.count = omega (arith, count, store.gaps.ok.0, ap length st.4, store.tables.ok.0, ap length st.5) in
-      opened_ready book lists s o settings z m (rw (groups, rules) at roomy) (plan ∙ groups) base
+      opened_ready book lists s o allowance m (rw (groups, rules) at roomy) (plan ∙ groups)
 
 module _ {H Q : Type 0} (om : OrderMeaning H) (pm : PolicyMeaning Q) where
   -- The base of new regions has nothing recorded.
@@ -167,6 +172,13 @@ module _ (bs : List ℕ) (m : Room) where
       let b : f.offset ≡ g.offset = t.placed ∙ (ap (λ (y : RecordFault). place (tally (after bs k)) y) a ∙ sym s.placed) in
       rw (a, b) refl
 
+-- Settings that are accepted are due no refusal.
+due_none : (s : Settings) → Accepted s → refusal_of s ≡ None
+due_none s z =
+    let allowance = and_from (leb 1 s.allowance) (leb s.allowance 1000000) (le-leb _ _ z.some) (le-leb _ _ z.most) in
+    none_fails (unless (leb s.base_words 65536) 10 ∷ unless (leb 1 s.allowance && leb s.allowance 1000000) 11 ∷ unless (leb (s.sittings * s.allowance) 100000000) 12 ∷ [])
+    (passes _ 10 (le-leb _ _ z.base), (passes _ 11 allowance, (passes _ 12 (le-leb _ _ z.moves), tt)))
+
 -- What is said of the answers decides which jobs are refused.
 module _ (bs : List ℕ) (settings : Settings) where
   pub no_answer : {A : Type 0} (P : A → Type 0) (r : Result A PlanError) → MatchResult r P (Unanswered bs settings) → Accepted settings → ((a : A) → P a → (i : ℕ) × Accepts bs places i) → RefusedAsLoaded bs r
@@ -179,7 +191,7 @@ module _ (bs : List ℕ) (settings : Settings) where
     faulty = λ f x. inr (e, refl, u.2 ∙ one_fault bs places u.0 f u.1.0 x.0 u.1.1 x.1);
     faultless = λ i x. absurd (apart bs places i x u.0 u.1.0 u.1.1);
   }
-  no_answer P (Err (Refused e)) (inr u) z has = absurd (u.1 z)
+  no_answer P (Err (Refused e)) (inr u) z has = absurd (none≢some _ _ (due_none settings z) u.1)
 
   pub refused_as_loaded : {H Q : Type 0} (om : OrderMeaning H) (pm : PolicyMeaning Q) (h h' : H) (q q' : Q) (r : Result Answer PlanError) → MatchResult r (Answered om pm bs settings h h' q q') (Unanswered bs settings)
       → Accepted settings → RefusedAsLoaded bs r
@@ -189,9 +201,8 @@ module _ (bs : List ℕ) (settings : Settings) where
   unanswered (Refused e) u = inl u
   unanswered NoMemory u = tt
 
-  pub called_off : (e : PlanError) → (i : ℕ) → Accepts bs places i → (Accepted settings → ⊥) → Unanswered bs settings e
-  called_off (Refused e) i a h = inr ((i, a), h)
-  called_off NoMemory i a h = tt
+  pub called_off : (e : PlanError) → (i : ℕ) → Accepts bs places i → RefusedFor (refusal_of settings) e → Unanswered bs settings e
+  called_off e i a (r, is, due) = subst (λ (y : PlanError). Unanswered bs settings y) (sym is) (inr ((i, a), due))
 
 -- An error that was passed on.
 pub passed_on : {T E : Type 0} (r : Result T E) (G : E → Type 0) (P : T → Type 0) (Q : E → Type 0) → IsErrAnd r G → ((e : E) → G e → Q e) → MatchResult r P Q
@@ -208,7 +219,7 @@ pub by_program : (bs : List ℕ) (h h' : Layer (Unit {0})) (q q' : ℕ) (r : Res
 by_program bs h h' q q' (Ok a) e f x = (h', q', rw (e, f) at x)
 by_program bs h h' q q' (Err NoMemory) e f x = tt
 by_program bs h h' q q' (Err (Refused y)) e f (inl u) = u
-by_program bs h h' q q' (Err (Refused y)) e f (inr u) = absurd (u.1 program_accepted)
+by_program bs h h' q q' (Err (Refused y)) e f (inr u) = absurd (none≢some _ _ (due_none program program_accepted) u.1)
 
 pub begins_with : (limit : ℕ) (kept : List ℕ) (candidate : Option ℕ) → limit ≡ 1 → kept ≡ [] → candidate ≡ None
     → ◌≡◌ {A = Layer (Unit {0})} (record { limit = limit; kept = kept; candidate = candidate; below = tt }) program_order

@@ -1,5 +1,5 @@
 -- What an answer has to do with its job.
-use Rattle.std.specs.Prelude.{◌≡◌, ℕ, ◌+◌, ◌*◌, ◌≤◌, ◌⊎◌, List, [], ◌++◌, length, take, replicate, None as Nothing, Ok, Err, Result, vec_items, vec_len}
+use Rattle.std.specs.Prelude.{◌≡◌, ℕ, ◌*◌, ◌≤◌, false, ◌&&◌, ◌⊎◌, List, [], ◌∷◌, ◌++◌, nat_le, length, take, replicate, Some, None as Nothing, Ok, Err, Result, vec_items, vec_len}
 use Rattle.jobs.specs.declared.fault.LoadFault.{LoadFault}
 use Rattle.jobs.specs.Jobs.{after, Accepts}
 use Rattle.jobs.specs.Books.{book_of}
@@ -21,7 +21,7 @@ use Rattle.branching.specs.Layer.{Layer, last_conflict}
 use Rattle.model.specs.Words.{base_of, recorded}
 use Rattle.model.specs.Moves.{State, start}
 use Rattle.laws.specs.Sittings.{Verdict as Reached, none, plan, unsettled}
-use Rattle.laws.specs.Requests.{Request}
+use Rattle.laws.specs.Requests.{Request, Refusal as Due, unless, first_of}
 use Rattle.laws.specs.Runs.{Run, Found}
 use Rattle.laws.specs.Law.{Law}
 use Rattle.search.specs.declared.held.Counts.{Counts}
@@ -45,6 +45,16 @@ Shaped n Open = Unit {0}
 abbrev pub Roomy : ℕ → ℕ → Memory → Type 0
 Roomy groups rules m =
     (vec_len m.domains ≡ groups) × (vec_len m.branch ≡ 64 * groups) × (vec_len m.marks ≡ 256) × (vec_len m.ends ≡ 2 * rules) × (vec_len m.settled ≡ groups)
+
+-- nothing stands in any region yet
+pub record Zeroed (m : Memory) : Type 0 where
+  pub domains : vec_items m.domains ≡ replicate (vec_len m.domains) 0
+  pub branch : vec_items m.branch ≡ replicate (vec_len m.branch) 0
+  pub plan : vec_items m.plan ≡ replicate (vec_len m.plan) 0
+  pub base : vec_items m.base ≡ replicate (vec_len m.base) 0
+  pub marks : vec_items m.marks ≡ replicate (vec_len m.marks) 0
+  pub ends : vec_items m.ends ≡ replicate (vec_len m.ends) (record { rule = 0; second = false })
+  pub settled : vec_items m.settled ≡ replicate (vec_len m.settled) (record { group = 0; channel = 0 })
 
 -- each region is as long as it was
 pub record Kept (r s : Memory) : Type 0 where
@@ -88,12 +98,25 @@ Written words nogoods = (k : ℕ) × (words ≡ recorded nogoods ++ replicate k 
 abbrev pub Clear : OpenSearch → Memory → Type 0
 Clear s m = Written (vec_items m.base) (base_of (take s.at.base_used (vec_items m.base))) × (s.at.base_used ≡ length (recorded (base_of (take s.at.base_used (vec_items m.base)))))
 
--- Settings with which no sitting is refused.
+-- Which refusal a sitting is due for its limits: the words of the base, the allowance and the moves that are made in all.
+abbrev pub over_limits : ℕ → ℕ → ℕ → Due
+over_limits base allowance moves =
+    first_of (unless (nat_le base 65536) 10 ∷ unless (nat_le 1 allowance && nat_le allowance 1000000) 11 ∷ unless (nat_le moves 100000000) 12 ∷ [])
+
+-- Which refusal settings are due, if any.
+abbrev pub refusal_of : Settings → Due
+refusal_of s = over_limits s.base_words s.allowance (s.sittings * s.allowance)
+
+-- Settings that are due none.
 pub record Accepted (s : Settings) : Type 0 where
   pub base : s.base_words ≤ 65536
   pub some : 1 ≤ s.allowance
   pub most : s.allowance ≤ 1000000
   pub moves : s.sittings * s.allowance ≤ 100000000
+
+-- An error is the refusal that is due.
+abbrev pub RefusedFor : Due → PlanError → Type 0
+RefusedFor due e = (r : Refusal) × (e ≡ Refused r) × (due ≡ Some (told r))
 
 -- A sitting as it is checked, in these regions.
 abbrev pub asked : Meaning → List ℕ → ℕ → OpenSearch → Memory → Request
@@ -102,16 +125,12 @@ asked book lists allowance s m =
     (record { domains = length (vec_items m.domains); marks = length (vec_items m.marks); ends = length (vec_items m.ends); settled = length (vec_items m.settled); plan = length (vec_items m.plan) })
     (vec_items m.branch) (vec_items m.base)
 
--- A run came to the search and what the regions hold; these are as large as a sitting asks for, and there is room for the moves of so many sittings.
-pub record Ready (book : Meaning) (lists : List ℕ) (allowance sittings : ℕ) (s : OpenSearch) (m : Memory) : Type 0 where
+-- A run came to the search and what the regions hold, and these are as large as a sitting asks for.
+pub record Ready (book : Meaning) (lists : List ℕ) (allowance : ℕ) (s : OpenSearch) (m : Memory) : Type 0 where
   pub stands : Stands book lists s (vec_items m.branch) (vec_items m.base)
   pub found : Found lists (asked book lists allowance s m) (state_of s.at (vec_items m.branch) (vec_items m.base))
   pub roomy : Roomy (length lists) book.count m
   pub plan : vec_len m.plan ≡ length lists
-  pub base : vec_len m.base ≤ 65536
-  pub some : 1 ≤ allowance
-  pub most : allowance ≤ 1000000
-  pub moves : s.at.counts.moves + sittings * allowance ≤ 100000000
 
 module _ {H Q : Type 0} (om : OrderMeaning H) (pm : PolicyMeaning Q) where
   -- The sittings that the settings ask for came from a state to this verdict, with an order and a policy that held h and q and now hold h' and q'; the counts are those of the
@@ -154,9 +173,9 @@ module _ {H Q : Type 0} (om : OrderMeaning H) (pm : PolicyMeaning Q) where
       × (run : Run (after bs i).lists (book_of bs (after bs i)) (told_by a.verdict) r.end) × Law (after bs i).lists (book_of bs (after bs i)) run
       × Written (vec_items a.base) r.end.base
 
--- A refusal is that of the job's first fault; or of a call on a search, where the settings are not accepted. Memory may be wanting at any job.
+-- A refusal is that of the job's first fault; or the one that the settings are due, where the job has no fault. Memory may be wanting at any job.
 abbrev pub Unanswered : List ℕ → Settings → PlanError → Type 0
-Unanswered bs settings (Refused r) = Unstored bs (Refused r) ⊎ (((i : ℕ) × Accepts bs places i) × (Accepted settings → ⊥))
+Unanswered bs settings (Refused r) = Unstored bs (Refused r) ⊎ (((i : ℕ) × Accepts bs places i) × (refusal_of settings ≡ Some (told r)))
 Unanswered bs settings NoMemory = Unit {0}
 
 -- A job with a fault is refused for the first, and one without is answered, unless memory is wanting.

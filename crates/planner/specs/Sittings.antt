@@ -1,5 +1,5 @@
 -- The sittings of one call, one after another.
-use Rattle.std.specs.Prelude.{◌≡◌, ℕ, zero, suc, ◌≢◌, List}
+use Rattle.std.specs.Prelude.{◌≡◌, ℕ, zero, suc, ◌+◌, ◌≤◌, ◌≢◌, List}
 use Rattle.rules.specs.Meanings.{Meaning}
 use Rattle.branching.specs.Order.{OrderMeaning}
 use Rattle.branching.specs.Policy.{PolicyMeaning}
@@ -16,15 +16,22 @@ pub record Between (H Q : Type 0) : Type 0 where
 abbrev pub between : {H Q : Type 0} → State → H → Q → Between H Q
 between s h q = record { state = s; order = h; policy = q }
 
+-- The limits of a sitting, with the moves that the search has made before.
+pub record Allowed (room allowance made : ℕ) : Type 0 where
+  pub base : room ≤ 65536
+  pub some : 1 ≤ allowance
+  pub most : allowance ≤ 1000000
+  pub moves : made + allowance ≤ 100000000
+
 module _ {H Q : Type 0} (om : OrderMeaning H) (pm : PolicyMeaning Q) where
   -- What a sitting from b leaves that came to t: the order and the policy hold what its moves made of their holdings.
   abbrev pub left_by : Between H Q → Search → Between H Q
   left_by b t = between t.state (held_after om b.order t.events) (moved_on pm b.policy t.restarts)
 
   module _ (lists : List ℕ) (book : Meaning) (room allowance : ℕ) where
-    -- One sitting, by the order and the policy as they stand.
+    -- One sitting within the limits, by the order and the policy as they stand.
     abbrev pub SitsFrom : Between H Q → Verdict → Search → Type 0
-    SitsFrom b v t = Sits lists book (behaviour om b.order) (cutoffs pm b.policy) room allowance (begun b.state) v t
+    SitsFrom b v t = Allowed room allowance b.state.moves × Sits lists book (behaviour om b.order) (cutoffs pm b.policy) room allowance (begun b.state) v t
 
     -- At most so many sittings, each from where the one before it left off, until one settles the search or none is left.
     pub data Ran : ℕ → Between H Q → Verdict → Between H Q → Type 0 where

@@ -1,4 +1,6 @@
 // What a search came to, and its account as text.
+ghost use Rattle.std.specs.Prelude.{Some};
+
 use search::held::Counts;
 use std::fmt;
 
@@ -22,6 +24,10 @@ pub struct Answer {
 }
 
 impl fmt::Display for Verdict {
+    ghost use Rattle.planner.specs.Accounts.{verdict_text};
+
+    ghost output = { λ v. Some (verdict_text v) };
+
     fn fmt<W: fmt::Write>(&self, f: &mut fmt::Formatter<W>) -> fmt::Result {
         match self {
             Verdict::Plan(channels) => {
@@ -37,6 +43,10 @@ impl fmt::Display for Verdict {
 }
 
 impl fmt::Display for Answer {
+    ghost use Rattle.planner.specs.Accounts.{answer_text};
+
+    ghost output = { λ a. Some (answer_text a) };
+
     fn fmt<W: fmt::Write>(&self, f: &mut fmt::Formatter<W>) -> fmt::Result {
         let verdict = &self.verdict;
         let Counts {

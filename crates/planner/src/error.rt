@@ -1,5 +1,5 @@
 // Why there is no answer: the job is refused, or memory is wanting.
-ghost use Rattle.std.specs.Prelude.{◌≡◌};
+ghost use Rattle.std.specs.Prelude.{◌≡◌, Some};
 ghost use Rattle.jobs.specs.Numbers.{numbered};
 ghost use Rattle.rules.specs.Refusals.{told};
 ghost use Rattle.rules.specs.declared.refusal.Refusal.{Refusal};
@@ -65,6 +65,10 @@ impl<T: Drop> From<AllocFailed<T>> for PlanError {
 }
 
 impl fmt::Display for PlanError {
+    ghost use Rattle.planner.specs.Accounts.{error_text};
+
+    ghost output = { λ e. Some (error_text e) };
+
     fn fmt<W: fmt::Write>(&self, f: &mut fmt::Formatter<W>) -> fmt::Result {
         match *self {
             PlanError::Refused(refusal) => {

@@ -1,7 +1,7 @@
 // The regions that are lent to the calls on a search, the sittings in them, and what these leave of an answer.
-ghost use Rattle.std.specs.Prelude.{◌≡◌, ◌+◌, replicate, IfOk, IsOkUnless, vec_items, vec_len};
+ghost use Rattle.std.specs.Prelude.{◌≡◌, ◌+◌, IfOk, IsOkUnless, vec_items, vec_len};
 ghost use Rattle.search.specs.Sittings.{lent, Answers};
-ghost use Rattle.planner.specs.Answers.{Shaped, Roomy, Kept, lent_of, reached, told_by};
+ghost use Rattle.planner.specs.Answers.{Shaped, Roomy, Zeroed, Kept, lent_of, reached, told_by};
 ghost use Rattle.planner.specs.declared.error.PlanError.TheVariants.{NoMemory};
 ghost use Rattle.search.specs.Ends.{counted};
 
@@ -65,8 +65,8 @@ impl Memory {
     pub fn new(heap: Global, store: &Store, base_words: u32) -> Result<Memory, PlanError>
         ensures plan { IfOk result (λ m. vec_len m.plan ≡ vec_len store.now.lists) }
         ensures base { IfOk result (λ m. vec_len m.base ≡ base_words) }
-        ensures zeros { IfOk result (λ m. m.base.items ≡ replicate base_words 0) }
         ensures rest { IfOk result (Roomy (vec_len store.now.lists) (vec_len store.now.gaps + vec_len store.now.tables)) }
+        ensures zeros { IfOk result Zeroed }
         ensures memory { IsOkUnless result NoMemory }
     {
         let groups = store.lists.len();

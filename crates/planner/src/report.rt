@@ -1,11 +1,13 @@
 // The report of a search: its account, what it closed and its decisions in hand, as text.
-ghost use Rattle.std.specs.Prelude.{◌≡◌, ◌*◌, ◌≤◌, ◌++◌, length, vec_len, vec_items, IfOk, IsOkUnless, MatchResult};
+ghost use Rattle.std.specs.Prelude.{◌≡◌, ◌*◌, ◌≤◌, ◌++◌, length, vec_len, vec_items, Some, IfOk, IsOkUnless, MatchResult};
 ghost use Rattle.model.specs.Decisions.{reduced};
-ghost use Rattle.model.specs.Words.{branch_of, recorded};
+ghost use Rattle.std.specs.List.{flat_map};
+ghost use Rattle.model.specs.Words.{decision, base_of, branch_of, recorded};
 ghost use Rattle.search.specs.Ends.{came_to};
 ghost use Rattle.planner.specs.declared.error.PlanError.TheVariants.{NoMemory};
 ghost use Rattle.planner.specs.Answers.{Accepted, Unanswered, RefusedAsLoaded};
 ghost use Rattle.planner.specs.Reports.{Tells, Reported};
+ghost use Rattle.planner.specs.Accounts.{assigned_text, listed_text, closed_text, decided_text, none_text};
 
 use crate::answer::{Answer, Verdict};
 use crate::error::PlanError;
@@ -82,6 +84,8 @@ pub fn explain<O: Order, P: RestartPolicy>(
 struct Assigned(u32);
 
 impl fmt::Display for Assigned {
+    ghost output = { λ a. Some (assigned_text a.0) };
+
     fn fmt<W: fmt::Write>(&self, f: &mut fmt::Formatter<W>) -> fmt::Result {
         let group = group_of(self.0);
         let channel = channel_of(self.0);
@@ -91,18 +95,61 @@ impl fmt::Display for Assigned {
 
 // A nogood, by the words of its assignments.
 #[derive(Clone, Copy)]
+struct Listed<'a>(&'a [u32]);
+
+impl<'a> fmt::Display for Listed<'a> {
+    ghost output = { λ n. Some (listed_text n.0.now) };
+
+    fn fmt<W: fmt::Write>(&self, f: &mut fmt::Formatter<W>) -> fmt::Result {
+        match self.0.split_first() {
+            None => Ok(()),
+            Some((first, rest)) => {
+                let assigned = Assigned(*first);
+                write!(f, " {assigned}")?;
+                for word in rest {
+                    let assigned = Assigned(*word);
+                    write!(f, ", {assigned}")?;
+                }
+                Ok(())
+            }
+        }
+    }
+}
+
+// The nogoods in some words, a line each.
+#[derive(Clone, Copy)]
 struct Closed<'a>(&'a [u32]);
 
 impl<'a> fmt::Display for Closed<'a> {
+    ghost output = { λ c. Some (flat_map (λ n. closed_text n) (base_of c.0.now)) };
+
     fn fmt<W: fmt::Write>(&self, f: &mut fmt::Formatter<W>) -> fmt::Result {
-        write!(f, "closed:")?;
-        let mut before = " ";
-        for word in self.0 {
-            let assigned = Assigned(*word);
-            write!(f, "{before}{assigned}")?;
-            before = ", ";
+        for (_count, nogood) in Nogoods(self.0) {
+            let listed = Listed(nogood);
+            write!(f, "\nclosed:{listed}")?;
         }
         Ok(())
+    }
+}
+
+// A decision of a branch, by its word.
+#[derive(Clone, Copy)]
+struct Decided(u32);
+
+impl fmt::Display for Decided {
+    ghost output = { λ d. Some (decided_text (decision d.0)) };
+
+    fn fmt<W: fmt::Write>(&self, f: &mut fmt::Formatter<W>) -> fmt::Result {
+        match Decision::from(self.0) {
+            Decision::Taken(word) => {
+                let assigned = Assigned(word);
+                write!(f, "\ntaken: {assigned}")
+            }
+            Decision::Refused(word) => {
+                let assigned = Assigned(word);
+                write!(f, "\nrefused: {assigned}")
+            }
+        }
     }
 }
 
@@ -111,32 +158,45 @@ impl<'a> fmt::Display for Closed<'a> {
 struct Decisions<'a>(&'a [u32]);
 
 impl<'a> fmt::Display for Decisions<'a> {
+    ghost output = { λ b. Some (flat_map (λ w. decided_text (decision w)) b.0.now) };
+
     fn fmt<W: fmt::Write>(&self, f: &mut fmt::Formatter<W>) -> fmt::Result {
         for word in self.0 {
-            match Decision::from(*word) {
-                Decision::Taken(assignment) => write!(f, "\ntaken: {}", Assigned(assignment))?,
-                Decision::Refused(assignment) => write!(f, "\nrefused: {}", Assigned(assignment))?,
-            }
+            let decided = Decided(*word);
+            write!(f, "{decided}")?;
         }
         Ok(())
     }
 }
 
-impl fmt::Display for Report {
+// What is told of a "none" behind its account.
+#[derive(Clone, Copy)]
+struct Sentence<'a>(&'a Verdict);
+
+impl<'a> fmt::Display for Sentence<'a> {
+    ghost output = { λ s. Some (none_text s.0.now) };
+
     fn fmt<W: fmt::Write>(&self, f: &mut fmt::Formatter<W>) -> fmt::Result {
-        let answer = &self.answer;
-        write!(f, "{answer}")?;
-        if let Verdict::None = answer.verdict {
-            write!(
+        match self.0 {
+            Verdict::None => write!(
                 f,
                 "\nnone: nothing is taken and some group keeps nothing of its list"
-            )?;
+            ),
+            Verdict::Plan(_) | Verdict::Open => Ok(()),
         }
-        for (_count, nogood) in Nogoods(&self.closed) {
-            let closed = Closed(nogood);
-            write!(f, "\n{closed}")?;
-        }
+    }
+}
+
+impl fmt::Display for Report {
+    ghost use Rattle.planner.specs.Accounts.{report_text};
+
+    ghost output = { λ r. Some (report_text r) };
+
+    fn fmt<W: fmt::Write>(&self, f: &mut fmt::Formatter<W>) -> fmt::Result {
+        let answer = &self.answer;
+        let sentence = Sentence(&answer.verdict);
+        let closed = Closed(&self.closed);
         let decisions = Decisions(&self.branch);
-        write!(f, "{decisions}")
+        write!(f, "{answer}{sentence}{closed}{decisions}")
     }
 }

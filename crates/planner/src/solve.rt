@@ -1,8 +1,8 @@
 // The search for a plan of a job: its memory, its sittings and its answer.
-ghost use Rattle.std.specs.Prelude.{◌≡◌, ◌<◌, ◌≤◌, length, IfOk, IsOk, Err, MatchResult};
+ghost use Rattle.std.specs.Prelude.{◌≡◌, ◌<◌, ◌≤◌, ◌+◌, ◌*◌, length, vec_len, IfOk, IfErr, Err, MatchResult};
 ghost use Rattle.rules.specs.declared.refusal.Refusal.TheVariants.{NoPlace};
 ghost use Rattle.planner.specs.declared.error.PlanError.TheVariants.{Refused};
-ghost use Rattle.planner.specs.Answers.{Kept, Accepted, Ready, SatOn, Searched, Answered, Unanswered, RefusedAsLoaded, AnsweredByProgram};
+ghost use Rattle.planner.specs.Answers.{Kept, over_limits, Accepted, RefusedFor, Ready, SatOn, Searched, Answered, Unanswered, RefusedAsLoaded, AnsweredByProgram};
 ghost use Rattle.planner.specs.Stores.{Unstored};
 
 use crate::answer::Answer;
@@ -46,7 +46,7 @@ pub fn sit_on<B: RuleBook, O: Order, P: RestartPolicy>(
 ) -> Result<Sat, PlanError>
     ensures kept { Kept memory.old memory.new }
     ensures sat { IfOk result (SatOn O.Order.meaning P.RestartPolicy.meaning (B.RuleBook.meaning book.now) lists.now settings «search» memory.old memory.new (O.Order.held order.old) (O.Order.held order.new) (P.RestartPolicy.held policy.old) (P.RestartPolicy.held policy.new)) }
-    ensures taken { Ready (B.RuleBook.meaning book.now) lists.now settings.allowance settings.sittings «search» memory.old → IsOk result }
+    ensures refused { Ready (B.RuleBook.meaning book.now) lists.now settings.allowance «search» memory.old → IfErr result (RefusedFor (over_limits (vec_len memory.old.base) settings.allowance («search».at.counts.moves + settings.sittings * settings.allowance))) }
 {
     // It repeats so often, and indexes nothing.
     for _sitting in 0..settings.sittings {

@@ -1,5 +1,5 @@
 -- A list that is written says its spans.
-use Rattle.std.proofs.Common.{◌≡◌, ℕ, suc, ◌+◌, ◌^◌, ◌<◌, ◌≤◌, ◌==◌, Bool, true, false, ◌&&◌, cond, List, [], ◌∷◌, ◌++◌, length, map, take, drop, Some, None, refl, ap, ◌∙◌, arith, nat_lt, decimal, length-append, append-nil}
+use Rattle.std.proofs.Common.{◌≡◌, ℕ, suc, ◌+◌, ◌^◌, ◌<◌, ◌≤◌, ◌==◌, Bool, true, false, ◌&&◌, cond, List, [], ◌∷◌, ◌++◌, length, map, take, drop, Some, None, Ok, refl, ap, ◌∙◌, arith, nat_lt, decimal, length-append, append-nil}
 use Rattle.std.proofs.lemmas.Bool.Decides.{nat_tests}
 use Rattle.std.proofs.lemmas.Fmt.{digits_decimal, digits_value-decimal, decimal_nonempty}
 use Rattle.std.proofs.lemmas.List.Splits.{slice_split_first}
@@ -8,7 +8,8 @@ use Rattle.std.specs.Char.{is_ascii_digit}
 use Rattle.std.specs.List.{position_or_len, flat_map}
 use Rattle.std.specs.Str.{all_ascii_digits}
 use Rattle.text.specs.declared.span.Span.{Span}
-use Rattle.text.specs.Words.{has_byte, before, behind, number_said}
+use Rattle.text.specs.declared.fault.Expected.TheVariants.{Channel}
+use Rattle.text.specs.Words.{has_byte, before, behind, due, channel_said}
 use Rattle.text.specs.Lists.{ends, spanned, span_said, onto, spans_said, pieces, list_said, span_text, list_text}
 use Rattle.text.proofs.Numbers.{own}
 use Rattle.text.proofs.Readings.{one_piece}
@@ -74,42 +75,42 @@ said_by w n v d l e h = grind (arith, nat_tests)
 small : (n : ℕ) → n < 64 → n < 2 ^ 64
 small n h = omega (arith, h)
 
-number_read : (n : ℕ) → n < 64 → number_said 64 (decimal n) ≡ Some n
-number_read n h = said_by (decimal n) n _ (digits_decimal own n (small n h)) (decimal_nonempty n (small n h)) (digits_value-decimal own n (small n h)) h
+number_read : (n : ℕ) → n < 64 → channel_said (decimal n) ≡ Ok n
+number_read n h = ap (due Channel (decimal n)) (said_by (decimal n) n _ (digits_decimal own n (small n h)) (decimal_nonempty n (small n h)) (digits_value-decimal own n (small n h)) h)
 
 decimal_free : (c n : ℕ) → is_ascii_digit c ≡ false → n < 64 → Free c (decimal n)
 decimal_free c n k h = digits_free c (decimal n) k (digits_decimal own n (small n h))
 
-spanned_some : (a b : ℕ) → a ≤ b → spanned (Some a) (Some b) ≡ Some (a, b)
-spanned_some a b h = grind (arith, nat_tests)
+spanned_some : (w : List ℕ) (a b : ℕ) → a ≤ b → spanned w (Ok a) (Ok b) ≡ Ok (a, b)
+spanned_some w a b h = grind (arith, nat_tests)
 
-one_said : (a : ℕ) → a < 64 → span_said (decimal a) ≡ Some (a, a)
+one_said : (a : ℕ) → a < 64 → span_said (decimal a) ≡ Ok (a, a)
 one_said a h =
     let f = decimal_free 45 a refl h in
     let front : before 45 (decimal a) ≡ decimal a = all_before 45 (decimal a) f in
     let back : cond (has_byte 45 (decimal a)) (behind 45 (decimal a)) (decimal a) ≡ decimal a = ap (λ b. cond b (behind 45 (decimal a)) (decimal a)) (lacks_it 45 (decimal a) f) in
-    ap (λ w. spanned (number_said 64 w) (number_said 64 (cond (has_byte 45 (decimal a)) (behind 45 (decimal a)) (decimal a)))) front
-    ∙ ap (λ w. spanned (number_said 64 (decimal a)) (number_said 64 w)) back
-    ∙ ap (λ o. spanned o o) (number_read a h)
-    ∙ spanned_some a a (omega arith)
+    ap (λ w. spanned (decimal a) (channel_said w) (channel_said (cond (has_byte 45 (decimal a)) (behind 45 (decimal a)) (decimal a)))) front
+    ∙ ap (λ w. spanned (decimal a) (channel_said (decimal a)) (channel_said w)) back
+    ∙ ap (λ o. spanned (decimal a) o o) (number_read a h)
+    ∙ spanned_some (decimal a) a a (omega arith)
 
-two_said : (a b : ℕ) → a ≤ b → b < 64 → span_said (decimal a ++ (45 ∷ decimal b)) ≡ Some (a, b)
+two_said : (a b : ℕ) → a ≤ b → b < 64 → span_said (decimal a ++ (45 ∷ decimal b)) ≡ Ok (a, b)
 two_said a b h k =
     let f = decimal_free 45 a refl (omega (arith, h, k)) in
     let w : List ℕ = decimal a ++ (45 ∷ decimal b) in
     let front : before 45 w ≡ decimal a = before_it 45 (decimal a) (decimal b) f in
     let back : cond (has_byte 45 w) (behind 45 w) w ≡ decimal b = ap (λ t. cond t (behind 45 w) w) (has_it 45 (decimal a) (decimal b) f) ∙ behind_it 45 (decimal a) (decimal b) f in
-    ap (λ v. spanned (number_said 64 v) (number_said 64 (cond (has_byte 45 w) (behind 45 w) w))) front
-    ∙ ap (λ v. spanned (number_said 64 (decimal a)) (number_said 64 v)) back
-    ∙ ap (λ o. spanned o (number_said 64 (decimal b))) (number_read a (omega (arith, h, k)))
-    ∙ ap (λ o. spanned (Some a) o) (number_read b k)
-    ∙ spanned_some a b h
+    ap (λ v. spanned w (channel_said v) (channel_said (cond (has_byte 45 w) (behind 45 w) w))) front
+    ∙ ap (λ v. spanned w (channel_said (decimal a)) (channel_said v)) back
+    ∙ ap (λ o. spanned w o (channel_said (decimal b))) (number_read a (omega (arith, h, k)))
+    ∙ ap (λ o. spanned w (Ok a) o) (number_read b k)
+    ∙ spanned_some w a b h
 
 equal : (a b : ℕ) → (a == b) ≡ true → a ≡ b
 equal a b h = grind (arith, nat_tests)
 
-span_read : (a b : ℕ) (t : Bool) → (a == b) ≡ t → a ≤ b → b < 64 → span_said (span_text (a, b)) ≡ Some (a, b)
-span_read a b true e h k = rw e (one_said a (omega (arith, h, k)) ∙ ap (λ n. Some (a, n)) (equal a b e))
+span_read : (a b : ℕ) (t : Bool) → (a == b) ≡ t → a ≤ b → b < 64 → span_said (span_text (a, b)) ≡ Ok (a, b)
+span_read a b true e h k = rw e (one_said a (omega (arith, h, k)) ∙ ap (λ n. Ok (a, n)) (equal a b e))
 span_read a b false e h k = rw e (two_said a b h k)
 
 span_free : (a b : ℕ) (t : Bool) → (a == b) ≡ t → a ≤ b → b < 64 → Free 44 (span_text (a, b))
@@ -127,18 +128,18 @@ cut_at xs ys f =
 abbrev pub more_text : List Span → List ℕ
 more_text ss = flat_map (λ t. 44 ∷ span_text (ends t)) ss
 
-spans_read : (s : Span) (ss : List Span) → spans_said (pieces (span_text (ends s) ++ more_text ss)) ≡ Some (ends s ∷ map ends ss)
+spans_read : (s : Span) (ss : List Span) → spans_said (pieces (span_text (ends s) ++ more_text ss)) ≡ Ok (ends s ∷ map ends ss)
 spans_read s [] =
     let f = span_free s.first s.last (s.first == s.last) refl (omega arith) (omega arith) in
     let whole : span_text (ends s) ++ [] ≡ span_text (ends s) = append-nil (span_text (ends s)) in
     ap (λ w. spans_said (pieces w)) whole
     ∙ ap spans_said (one_piece (λ b. b == 44) (span_text (ends s)) (free_place 44 (span_text (ends s)) f))
-    ∙ ap (λ o. onto o (Some [])) (span_read s.first s.last (s.first == s.last) refl (omega arith) (omega arith))
+    ∙ ap (λ o. onto o (Ok [])) (span_read s.first s.last (s.first == s.last) refl (omega arith) (omega arith))
 spans_read s (t ∷ ts) =
     let f = span_free s.first s.last (s.first == s.last) refl (omega arith) (omega arith) in
     ap spans_said (cut_at (span_text (ends s)) (span_text (ends t) ++ more_text ts) f)
     ∙ ap (λ o. onto o (spans_said (pieces (span_text (ends t) ++ more_text ts)))) (span_read s.first s.last (s.first == s.last) refl (omega arith) (omega arith))
-    ∙ ap (λ o. onto (Some (ends s)) o) (spans_read t ts)
+    ∙ ap (λ o. onto (Ok (ends s)) o) (spans_read t ts)
 
 some_length : (a b : ℕ) (t : Bool) → (a == b) ≡ t → a ≤ b → b < 64 → 0 < length (span_text (a, b))
 some_length a b true e h k = rw e (decimal_nonempty a (small a (omega (arith, h, k))))
@@ -147,9 +148,9 @@ some_length a b false e h k = rw e (omega (arith, length-append (decimal a) (45 
 not_empty : (n : ℕ) → 0 < n → (n == 0) ≡ false
 not_empty n h = grind (arith, nat_tests)
 
-pub list_read : (ss : List Span) → list_said (drop 1 (list_text ss)) ≡ Some (map ends ss)
+pub list_read : (ss : List Span) → list_said (drop 1 (list_text ss)) ≡ Ok (map ends ss)
 list_read [] = refl
 list_read (s ∷ ss) =
     let w : List ℕ = span_text (ends s) ++ more_text ss in
     let long : 0 < length w = omega (arith, some_length s.first s.last (s.first == s.last) refl (omega arith) (omega arith), length-append (span_text (ends s)) (more_text ss)) in
-    ap (λ b. cond b (Some []) (spans_said (pieces w))) (not_empty (length w) long) ∙ spans_read s ss
+    ap (λ b. cond b (Ok []) (spans_said (pieces w))) (not_empty (length w) long) ∙ spans_read s ss

@@ -58,7 +58,7 @@ nothing_sound = record { few = omega arith; each = tt; table = λ g e. absurd (l
 not_full : (n : ℕ) → cond (nat_lt n 65535) None (Some TooMany) ≡ None → n < 65535
 not_full n h = grind (arith, nat_tests)
 
-plain_sound : (m : Made) (x : Item) → Fits (length m.rows) x → full m ≡ None → Sound m → Sound (with_item m x)
+plain_sound : (m : Made) (x : Item) → Fits (length m.rows) x → full m ≡ None → Sound m → Sound (with_item m x None)
 plain_sound m x f h s = record {
   few = omega (arith, not_full (length m.items) h, length-append m.items (x ∷ []));
   each = all_push (length m.rows) m.items x s.each f;

@@ -1,5 +1,5 @@
 -- A job in the making. Assumes nothing.
-use Rattle.std.specs.Prelude.{◌≡◌, ℕ, ◌+◌, ◌-◌, ◌*◌, ◌^◌, ◌⊎◌, cond, List, [], ◌∷◌, ◌++◌, length, take, drop, replicate, Some, None, Option, Result, MatchResult, ◌==◌, nat_lt, bit_or, vec_items}
+use Rattle.std.specs.Prelude.{◌≡◌, ℕ, ◌+◌, ◌-◌, ◌*◌, ◌^◌, ◌⊎◌, Bool, true, false, cond, List, [], ◌∷◌, ◌++◌, length, take, drop, replicate, Some, None, Option, Ok, Err, Result, MatchResult, ◌==◌, nat_lt, bit_or, vec_items}
 use Rattle.std.specs.Int.{to_be_bytes, w64}
 use Rattle.std.specs.List.{slice_split}
 use Rattle.std.specs.Str.{IsUtf8}
@@ -7,10 +7,12 @@ use Rattle.rules.specs.Channels.{has}
 use Rattle.jobs.specs.declared.item.Item.{Item}
 use Rattle.jobs.specs.declared.item.Item.TheVariants.{Channels, Near, Rows}
 use Rattle.text.specs.declared.fault.Wrong.{Wrong}
-use Rattle.text.specs.declared.fault.Wrong.TheVariants.{NoTable, SecondRow, TooMany, NoMemory}
+use Rattle.text.specs.declared.fault.Lack.{Lack}
+use Rattle.text.specs.declared.fault.Wrong.TheVariants.{Lacks, NoTable, SecondRow, NotText, TooMany, NoMemory}
 use Rattle.text.specs.declared.line.Line.{Line}
 use Rattle.text.specs.declared.line.Line.TheVariants.{Blank, Group, Gap, Table, Row}
 use Rattle.text.specs.declared.draft.Draft.{Draft}
+use Rattle.text.specs.Words.{missing}
 use Rattle.text.specs.Lines.{Told, told, IsLine}
 
 -- the items, the rows of the tables one table after another, and the set of rows that the last item was given, where it is a table
@@ -26,8 +28,8 @@ abbrev pub made : Draft → Made
 made d = record { items = vec_items d.items; rows = vec_items d.rows; given = d.given }
 
 -- with one item more
-abbrev pub with_item : Made → Item → Made
-with_item m x = record { items = m.items ++ (x ∷ []); rows = m.rows; given = None }
+abbrev pub with_item : Made → Item → Option ℕ → Made
+with_item m x given = record { items = m.items ++ (x ∷ []); rows = m.rows; given = given }
 
 -- some bytes in place of as many from a place on
 abbrev pub replaced : List ℕ → ℕ → List ℕ → List ℕ
@@ -44,8 +46,8 @@ row_added (Some g) m c set = with_row m g c set
 -- what a line adds
 abbrev pub added : Made → Line → Made
 added m Blank = m
-added m (Group l) = with_item m (Channels l)
-added m (Gap e) = with_item m (Near e)
+added m (Group l) = with_item m (Channels l) None
+added m (Gap e) = with_item m (Near e) None
 added m (Table a b) = record { items = m.items ++ (Rows (record { first = a; second = b; offset = length m.rows }) ∷ []); rows = m.rows ++ replicate 512 0; given = Some 0 }
 added m (Row c l) = row_added m.given m c l
 
@@ -64,25 +66,40 @@ wrong m (Gap e) = full m
 wrong m (Table a b) = full m
 wrong m (Row c l) = row_wrong m.given c
 
--- what adding a line answers, and what it leaves: with a fault nothing is said of what is left
+-- memory may be wanting for a line that adds an item, where it fits
+abbrev pub adds_item : Line → Bool
+adds_item Blank = false
+adds_item (Group l) = true
+adds_item (Gap e) = true
+adds_item (Table a b) = true
+adds_item (Row c l) = false
+
+abbrev pub Wants : Bool → Option Wrong → Wrong → Type 0
+Wants grows due w = (w ≡ NoMemory) × (grows ≡ true) × (due ≡ None)
+
+-- a try to make x of m: it comes about where nothing is due, and for what is due all stays as it was; where memory is wanting nothing is said of what is left
+abbrev pub Tried : Bool → Option Wrong → Made → Made → Result (Unit {0}) Wrong → Made → Type 0
+Tried grows due m x r n = MatchResult r (λ _. (due ≡ None) × (n ≡ x)) (λ w. Wants grows due w ⊎ ((due ≡ Some w) × (n ≡ m)))
+
+-- what adding a line answers, and what it leaves
 abbrev pub Adding : Made → Line → Result (Unit {0}) Wrong → Made → Type 0
-Adding m l r n = MatchResult r (λ _. (wrong m l ≡ None) × (n ≡ added m l)) (λ w. (w ≡ NoMemory) ⊎ (wrong m l ≡ Some w))
+Adding m l r n = Tried (adds_item l) (wrong m l) m (added m l) r n
 
 -- a line that is taken in says an item, which is added
 pub record Takes (m : Made) (w : List ℕ) (n : Made) : Type 0 where
   pub says : Told
   pub line : Line
-  pub said : told w ≡ Some says
+  pub said : told w ≡ Ok says
   pub means : IsLine says line
   pub fits : wrong m line ≡ None
   pub adds : n ≡ added m line
 
--- why a line is not taken in: it is no text, or says nothing, or what it says is not added, or there is no memory
+-- why a line is not taken in: it is no text, or misses something, or what it says is not added, or there is no memory
 pub data Refuses (m : Made) (w : List ℕ) (x : Wrong) : Type 0 where
-  no_text : ¬ (IsUtf8 w) → Refuses m w x
-  no_item : told w ≡ None → Refuses m w x
-  not_added : (t : Told) (l : Line) → told w ≡ Some t → IsLine t l → wrong m l ≡ Some x → Refuses m w x
-  no_memory : x ≡ NoMemory → Refuses m w x
+  no_text : ¬ (IsUtf8 w) → x ≡ NotText → Refuses m w x
+  no_item : (l : Lack) → told w ≡ Err (missing l) → x ≡ Lacks l → Refuses m w x
+  not_added : (t : Told) (l : Line) → told w ≡ Ok t → IsLine t l → wrong m l ≡ Some x → Refuses m w x
+  no_memory : (t : Told) (l : Line) → told w ≡ Ok t → IsLine t l → Wants (adds_item l) (wrong m l) x → Refuses m w x
 
 -- the lines of a text, the byte 10 between them
 abbrev pub lines : List ℕ → List (List ℕ)

@@ -4,3 +4,4 @@ pub mod Lines
 pub mod Drafts
 pub mod Texts
 pub mod Laws
+pub mod Accounts

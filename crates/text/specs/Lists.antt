@@ -1,8 +1,10 @@
 -- What a list of channels says, and how one is written. Assumes nothing.
-use Rattle.std.specs.Prelude.{ℕ, ◌+◌, ◌<◌, ◌≤◌, Bool, cond, ◌&&◌, List, [], ◌∷◌, ◌++◌, length, Some, None, Option, ◌==◌, nat_le, decimal}
+use Rattle.std.specs.Prelude.{ℕ, ◌+◌, ◌<◌, ◌≤◌, Bool, cond, ◌&&◌, List, [], ◌∷◌, ◌++◌, length, Ok, Err, Result, ◌==◌, ◌≡◌, nat_le, decimal}
 use Rattle.std.specs.List.{list_any, slice_split, flat_map}
 use Rattle.text.specs.declared.span.Span.{Span}
-use Rattle.text.specs.Words.{has_byte, before, behind, number_said}
+use Rattle.rules.specs.Channels.{has}
+use Rattle.text.specs.declared.fault.Expected.TheVariants.{RisingRange}
+use Rattle.text.specs.Words.{Missing, has_byte, before, behind, channel_said}
 
 -- The channels from one to another, with both: the first two of them, and whether it has a channel.
 abbrev pub Ends : Type 0
@@ -28,32 +30,36 @@ Below n (s ∷ ss) = (s.1 < n) × Below n ss
 abbrev pub ends : Span → Ends
 ends s = (s.first, s.last)
 
--- two numbers as a span, where they do not go down
-abbrev pub spanned : Option ℕ → Option ℕ → Option Ends
-spanned (Some a) (Some b) = cond (nat_le a b) (Some (a, b)) None
-spanned (Some a) None = None
-spanned None b = None
+-- the channels of a word as a span, where they do not go down
+abbrev pub spanned : List ℕ → Result ℕ Missing → Result ℕ Missing → Result Ends Missing
+spanned w (Ok a) (Ok b) = cond (nat_le a b) (Ok (a, b)) (Err (RisingRange, w))
+spanned w (Ok a) (Err x) = Err x
+spanned w (Err x) b = Err x
 
 -- the span that a word says: a channel, or with a dash (45) from the channel before it to the one behind
-abbrev pub span_said : List ℕ → Option Ends
-span_said w = spanned (number_said 64 (before 45 w)) (number_said 64 (cond (has_byte 45 w) (behind 45 w) w))
+abbrev pub span_said : List ℕ → Result Ends Missing
+span_said w = spanned w (channel_said (before 45 w)) (channel_said (cond (has_byte 45 w) (behind 45 w) w))
 
-abbrev pub onto : Option Ends → Option (List Ends) → Option (List Ends)
-onto (Some s) (Some ss) = Some (s ∷ ss)
-onto (Some s) None = None
-onto None ss = None
+abbrev pub onto : Result Ends Missing → Result (List Ends) Missing → Result (List Ends) Missing
+onto (Ok s) (Ok ss) = Ok (s ∷ ss)
+onto (Ok s) (Err x) = Err x
+onto (Err x) ss = Err x
 
--- the spans that words say, where each says one
-abbrev pub spans_said : List (List ℕ) → Option (List Ends)
-spans_said [] = Some []
+-- the spans that words say, or what the first misses that says none
+abbrev pub spans_said : List (List ℕ) → Result (List Ends) Missing
+spans_said [] = Ok []
 spans_said (w ∷ ws) = onto (span_said w) (spans_said ws)
 
 -- the words of a list, with a comma (44) between; the empty text has none
 abbrev pub pieces : List ℕ → List (List ℕ)
 pieces bs = slice_split (λ b. b == 44) bs
 
-abbrev pub list_said : List ℕ → Option (List Ends)
-list_said bs = cond (length bs == 0) (Some []) (spans_said (pieces bs))
+abbrev pub list_said : List ℕ → Result (List Ends) Missing
+list_said bs = cond (length bs == 0) (Ok []) (spans_said (pieces bs))
+
+-- the set has the channels of the spans that are said, and no other
+abbrev pub IsSet : Result (List Ends) Missing → ℕ → Type 0
+IsSet said set = (ss : List Ends) × (said ≡ Ok ss) × ((c : ℕ) → has set c ≡ listed ss c)
 
 -- how a span is written, and a list of spans behind the word of an item
 abbrev pub span_text : Ends → List ℕ

@@ -12,6 +12,10 @@ use Rattle.text.specs.declared.write.WriteFault.{WriteFault}
 use Rattle.text.specs.declared.write.WriteFault.TheVariants.{Refused, NoMemory}
 use Rattle.text.specs.Lists.{Apart, listed, ends, list_text}
 
+-- a text that was written behind another is of this kind
+abbrev pub Adds : (List ℕ → Type 0) → List ℕ → List ℕ → Type 0
+Adds IsText old new = (bs : List ℕ) × IsText bs × (new ≡ old ++ bs)
+
 -- how many bytes a record takes, with its byte of kind
 abbrev pub size_of : Record → ℕ
 size_of (End b) = 5

@@ -1,8 +1,11 @@
 -- What the words of a line say. Assumes nothing.
-use Rattle.std.specs.Prelude.{ℕ, Bool, cond, ◌&&◌, List, [], length, Some, None, Option, ◌==◌, nat_lt}
+use Rattle.std.specs.Prelude.{ℕ, Bool, cond, ◌&&◌, List, [], length, Some, None, Option, Ok, Err, Result, ◌==◌, nat_lt}
 use Rattle.std.specs.List.{before_first, after_first, position_or_len}
 use Rattle.std.specs.Str.{all_ascii_digits, trim}
 use Rattle.std.specs.Str.Parse.{digits_value}
+use Rattle.text.specs.declared.fault.Expected.{Expected}
+use Rattle.text.specs.declared.fault.Expected.TheVariants.{Group, Distance, Channel}
+use Rattle.text.specs.declared.fault.Lack.{Lack}
 
 -- whether a text has a byte, what stands before the first such byte (all of a text that has none), and what after it
 abbrev pub has_byte : ℕ → List ℕ → Bool
@@ -28,3 +31,24 @@ number_said limit w = cond (nat_lt 0 (length w) && all_ascii_digits w && nat_lt 
 -- what stands before a comment (35), without spaces around
 abbrev pub said : List ℕ → List ℕ
 said bs = trim (cond (has_byte 35 bs) (before 35 bs) bs)
+
+-- what a text should have, and what stands there
+abbrev pub Missing : Type 0
+Missing = Expected × List ℕ
+
+abbrev pub missing : Lack → Missing
+missing l = (l.expected, l.found.now)
+
+-- the number of a word, or that something else is expected there
+abbrev pub due : Expected → List ℕ → Option ℕ → Result ℕ Missing
+due e w None = Err (e, w)
+due e w (Some n) = Ok n
+
+abbrev pub group_said : List ℕ → Result ℕ Missing
+group_said w = due Group w (number_said 65536 w)
+
+abbrev pub distance_said : List ℕ → Result ℕ Missing
+distance_said w = due Distance w (number_said 256 w)
+
+abbrev pub channel_said : List ℕ → Result ℕ Missing
+channel_said w = due Channel w (number_said 64 w)

@@ -1,5 +1,5 @@
 // A job in the making: its items, and the rows of its tables.
-ghost use Rattle.std.specs.Prelude.{◌≡◌, ◌+◌, ◌*◌, ◌≤◌, ◌<◌, [], ◌∷◌, ◌++◌, ◌⊎◌, None, vec_len, MatchResult};
+ghost use Rattle.std.specs.Prelude.{◌≡◌, ◌*◌, ◌≤◌, None, true, vec_len};
 ghost use Rattle.std.specs.Option.{ForSome};
 
 use super::fault::Wrong;
@@ -30,7 +30,7 @@ pub struct Draft {
 
 impl Draft {
     // These name the struct itself, so they are brought in here and not above it.
-    ghost use Rattle.text.specs.Drafts.{made, nothing, Adding};
+    ghost use Rattle.text.specs.Drafts.{made, nothing, full, with_item, Tried, Adding};
 
     // Of no item.
     pub fn new(heap: Global) -> Draft
@@ -45,9 +45,7 @@ impl Draft {
 
     // Adds an item.
     fn add_item(&mut self, item: Item) -> Result<(), Wrong<'static>>
-        ensures items { MatchResult result (λ _. (vec_len self.old.items < 65535) × (self.new.items.items ≡ self.old.items.items ++ item ∷ [])) (λ w. (w ≡ Wrong.NoMemory) ⊎ ((w ≡ Wrong.TooMany) × (65535 ≤ vec_len self.old.items))) }
-        ensures rows { self.new.rows.items ≡ self.old.rows.items }
-        ensures given { self.new.given ≡ self.old.given }
+        ensures { Tried true (full (made self.old)) (made self.old) (with_item (made self.old) item self.old.given) result (made self.new) }
     {
         if self.items.len() >= ITEMS {
             return Err(Wrong::TooMany);
@@ -58,12 +56,11 @@ impl Draft {
 
     // Adds a group or a gap.
     fn add_plain(&mut self, item: Item) -> Result<(), Wrong<'static>>
-        ensures items { MatchResult result (λ _. (vec_len self.old.items < 65535) × (self.new.items.items ≡ self.old.items.items ++ item ∷ [])) (λ w. (w ≡ Wrong.NoMemory) ⊎ ((w ≡ Wrong.TooMany) × (65535 ≤ vec_len self.old.items))) }
-        ensures rows { self.new.rows.items ≡ self.old.rows.items }
-        ensures given { self.new.given ≡ None }
+        ensures { Tried true (full (made self.old)) (made self.old) (with_item (made self.old) item None) result (made self.new) }
     {
+        self.add_item(item)?;
         self.given = None;
-        self.add_item(item)
+        Ok(())
     }
 
     // Adds a table of no pairs.

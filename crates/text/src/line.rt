@@ -1,12 +1,13 @@
 // What one line of a text says.
-ghost use Rattle.std.specs.Prelude.{◌≡◌, ◌==◌, ℕ, Some, None, List, Bool, true, false, MatchResult, length};
-ghost use Rattle.text.specs.Words.{word as word_of, after_word, number_said, said};
-ghost use Rattle.text.specs.Lists.{Ends};
-ghost use Rattle.text.specs.Lines.{keyword as keyword_said, Told, lone_said, gap_told, table_told, row_told, told, IsLine, IsSet};
+ghost use Rattle.std.specs.Prelude.{◌≡◌, ◌==◌, ℕ, Ok, Err, List, Bool, true, false, MatchResult, length};
+ghost use Rattle.text.specs.declared.fault.Expected.TheVariants.{End};
+ghost use Rattle.text.specs.Words.{missing, word as word_of, after_word, group_said, said};
+ghost use Rattle.text.specs.Lists.{Ends, IsSet};
+ghost use Rattle.text.specs.Lines.{keyword as keyword_said, Told, lone_said, gap_told, table_told, row_told, told, IsLine};
 
-use super::fault::{Expected, Wrong};
+use super::fault::{Expected, Lack};
 use super::list::read_list;
-use super::word::{channel, cut, number, small_number};
+use super::word::{cut, read_channel, read_distance, read_group};
 use rules::gap::GapEntry;
 
 #[derive(Clone, Copy)]
@@ -51,19 +52,22 @@ fn keyword_of(word: &str) -> Keyword
 }
 
 // Whether a text ends here.
-fn read_end(text: &str) -> Result<(), Wrong<'_>>
-    ensures { MatchResult result (λ _. (length text.now == 0) ≡ true) (λ _. (length text.now == 0) ≡ false) }
+fn read_end(text: &str) -> Result<(), Lack<'_>>
+    ensures { MatchResult result (λ _. (length text.now == 0) ≡ true) (λ l. ((length text.now == 0) ≡ false) × (missing l ≡ (End, word_of text.now))) }
 {
     if text.is_empty() {
         Ok(())
     } else {
-        Err(Wrong::Found(Expected::End, cut(text).0))
+        Err(Lack {
+            expected: Expected::End,
+            found: cut(text).0,
+        })
     }
 }
 
 // The list that a text is.
-fn lone_list(text: &str) -> Result<u64, Wrong<'_>>
-    ensures { MatchResult result (λ set. IsSet (lone_said text.now) set) (λ _. lone_said text.now ≡ None) }
+fn lone_list(text: &str) -> Result<u64, Lack<'_>>
+    ensures { MatchResult result (IsSet (lone_said text.now)) (λ l. lone_said text.now ≡ Err (missing l)) }
 {
     let (list, rest) = cut(text);
     let set = read_list(list)?;
@@ -72,46 +76,46 @@ fn lone_list(text: &str) -> Result<u64, Wrong<'_>>
 }
 
 // The group at the front of a text, and what follows it.
-fn read_group(text: &str) -> Result<(u16, &str), Wrong<'_>>
-    ensures { MatchResult result (λ p. (number_said 65536 (word_of text.now) ≡ Some p.0) × (p.1.now ≡ after_word text.now)) (λ _. number_said 65536 (word_of text.now) ≡ None) }
+fn cut_group(text: &str) -> Result<(u16, &str), Lack<'_>>
+    ensures { MatchResult result (λ p. (group_said (word_of text.now) ≡ Ok p.0) × (p.1.now ≡ after_word text.now)) (λ l. group_said (word_of text.now) ≡ Err (missing l)) }
 {
     let (word, rest) = cut(text);
-    match number(word) {
-        Some(group) => Ok((group, rest)),
-        None => Err(Wrong::Found(Expected::Group, word)),
-    }
+    Ok((read_group(word)?, rest))
 }
 
 // A gap, behind its word.
-fn read_gap(text: &str) -> Result<GapEntry, Wrong<'_>>
-    ensures { MatchResult result (λ e. gap_told text.now ≡ Some (Told.gap e.first e.second e.gap)) (λ _. gap_told text.now ≡ None) }
+fn read_gap(text: &str) -> Result<GapEntry, Lack<'_>>
+    ensures { MatchResult result (λ e. gap_told text.now ≡ Ok (Told.gap e.first e.second e.gap)) (λ l. gap_told text.now ≡ Err (missing l)) }
 {
-    let (first, text) = read_group(text)?;
-    let (second, text) = read_group(text)?;
+    let (first, text) = cut_group(text)?;
+    let (second, text) = cut_group(text)?;
     let (word, rest) = cut(text);
-    let gap = small_number(word).ok_or(Wrong::Found(Expected::Distance, word))?;
+    let gap = read_distance(word)?;
     read_end(rest)?;
     Ok(GapEntry { first, second, gap })
 }
 
 // The groups of a table, behind its word.
-fn read_table(text: &str) -> Result<(u16, u16), Wrong<'_>>
-    ensures { MatchResult result (λ p. table_told text.now ≡ Some (Told.table p.0 p.1)) (λ _. table_told text.now ≡ None) }
+fn read_table(text: &str) -> Result<(u16, u16), Lack<'_>>
+    ensures { MatchResult result (λ p. table_told text.now ≡ Ok (Told.table p.0 p.1)) (λ l. table_told text.now ≡ Err (missing l)) }
 {
-    let (first, text) = read_group(text)?;
-    let (second, text) = read_group(text)?;
+    let (first, text) = cut_group(text)?;
+    let (second, text) = cut_group(text)?;
     read_end(text)?;
     Ok((first, second))
 }
 
 // The channel and the list of a row.
-fn read_row(text: &str) -> Result<(u8, u64), Wrong<'_>>
-    ensures { MatchResult result (λ p. (ss : List Ends) × (row_told text.now ≡ Some (Told.row p.0 ss)) × IsSet (Some ss) p.1) (λ _. row_told text.now ≡ None) }
+fn read_row(text: &str) -> Result<(u8, u64), Lack<'_>>
+    ensures { MatchResult result (λ p. (ss : List Ends) × (row_told text.now ≡ Ok (Told.row p.0 ss)) × IsSet (Ok ss) p.1) (λ l. row_told text.now ≡ Err (missing l)) }
 {
     let Some((front, list)) = text.split_once(':') else {
-        return Err(Wrong::Found(Expected::Item, cut(text).0));
+        return Err(Lack {
+            expected: Expected::Item,
+            found: cut(text).0,
+        });
     };
-    let channel = channel(front).ok_or(Wrong::Found(Expected::Channel, front))?;
+    let channel = read_channel(front)?;
     Ok((channel, lone_list(list.trim())?))
 }
 
@@ -126,8 +130,8 @@ fn without_comment(text: &str) -> &str
 }
 
 // What a line says. A `#` and what follows it is a comment.
-pub fn read_line(text: &str) -> Result<Line, Wrong<'_>>
-    ensures { MatchResult result (λ l. (t : Told) × (told text.now ≡ Some t) × IsLine t l) (λ _. told text.now ≡ None) }
+pub fn read_line(text: &str) -> Result<Line, Lack<'_>>
+    ensures { MatchResult result (λ l. (t : Told) × (told text.now ≡ Ok t) × IsLine t l) (λ l. told text.now ≡ Err (missing l)) }
 {
     let said = without_comment(text);
     let (word, rest) = cut(said);

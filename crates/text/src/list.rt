@@ -1,17 +1,18 @@
 // Lists of channels: a text read as a set, and a set written with its ranges merged.
-ghost use Rattle.std.specs.Prelude.{◌≡◌, ℕ, ◌+◌, ◌<◌, ◌||◌, List, map, Some, None, MatchResult, IfOk, OnOk, ◌==◌};
+ghost use Rattle.std.specs.Prelude.{◌≡◌, ℕ, ◌+◌, ◌<◌, ◌||◌, map, Some, Err, MatchResult, IfOk, OnOk, ◌==◌};
 ghost use Rattle.rules.specs.Channels.{has};
-ghost use Rattle.text.specs.Lists.{Ends, Apart, Below, ends, listed, list_said, list_text};
+ghost use Rattle.text.specs.Words.{missing};
+ghost use Rattle.text.specs.Lists.{Apart, Below, ends, listed, list_said, IsSet, list_text};
 
-use super::fault::Wrong;
+use super::fault::Lack;
 use super::span::Span;
 use rules::channels::has_channel;
 use std::alloc::{AllocError, Global};
 use std::fmt;
 
 // The set that a list says: channels and ranges with a comma between; the empty text lists none.
-pub fn read_list(text: &str) -> Result<u64, Wrong<'_>>
-    ensures { MatchResult result (λ set. (ss : List Ends) × (list_said text.now ≡ Some ss) × ((c : ℕ) → has set c ≡ listed ss c)) (λ _. list_said text.now ≡ None) }
+pub fn read_list(text: &str) -> Result<u64, Lack<'_>>
+    ensures { MatchResult result (IsSet (list_said text.now)) (λ l. list_said text.now ≡ Err (missing l)) }
 {
     if text.is_empty() {
         return Ok(0);

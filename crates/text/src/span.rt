@@ -1,10 +1,10 @@
 // Channels that follow one another, as a list names them: one channel, or a range.
-ghost use Rattle.std.specs.Prelude.{◌≡◌, ℕ, ◌≤◌, ◌<◌, if◌then◌else◌, Some, None, MatchResult};
+ghost use Rattle.std.specs.Prelude.{◌≡◌, ℕ, ◌≤◌, ◌<◌, if◌then◌else◌, Some, Ok, Err, MatchResult};
 ghost use Rattle.rules.specs.Channels.{has};
-ghost use Rattle.text.specs.Words.{has_byte, before, behind};
+ghost use Rattle.text.specs.Words.{missing, has_byte, before, behind};
 
-use super::fault::{Expected, Wrong};
-use super::word::channel;
+use super::fault::{Expected, Lack};
+use super::word::read_channel;
 use std::fmt;
 
 #[derive(Clone, Copy, PartialEq, Eq, Debug)]
@@ -31,14 +31,17 @@ impl Span {
     ghost use Rattle.text.specs.Lists.{ends, covers, span_said};
 
     // What a word says: a channel, or two with a dash between.
-    pub fn read(word: &str) -> Result<Span, Wrong<'_>>
-        ensures { MatchResult result (λ s. span_said word.now ≡ Some (ends s)) (λ _. span_said word.now ≡ None) }
+    pub fn read(word: &str) -> Result<Span, Lack<'_>>
+        ensures { MatchResult result (λ s. span_said word.now ≡ Ok (ends s)) (λ l. span_said word.now ≡ Err (missing l)) }
     {
         let (front, back) = halves(word);
-        let first = channel(front).ok_or(Wrong::Found(Expected::Channel, front))?;
-        let last = channel(back).ok_or(Wrong::Found(Expected::Channel, back))?;
+        let first = read_channel(front)?;
+        let last = read_channel(back)?;
         if last < first {
-            return Err(Wrong::Found(Expected::RisingRange, word));
+            return Err(Lack {
+                expected: Expected::RisingRange,
+                found: word,
+            });
         }
         Ok(Span { first, last })
     }

@@ -1,6 +1,8 @@
 // The words of a line, and the numbers that they say.
-ghost use Rattle.std.specs.Prelude.{◌≡◌, Some, None, MatchOption, IfSome, ◌<◌};
-ghost use Rattle.text.specs.Words.{word as word_of, after_word, number_said};
+ghost use Rattle.std.specs.Prelude.{◌≡◌, Some, None, Ok, Err, MatchOption, MatchResult, IfSome, IfOk, ◌<◌};
+ghost use Rattle.text.specs.Words.{word as word_of, after_word, number_said, missing, group_said, distance_said, channel_said};
+
+use super::fault::{Expected, Lack};
 
 // The first word of a text that has no space in front, and what follows it, without spaces around.
 pub fn cut(text: &str) -> (&str, &str)
@@ -37,4 +39,35 @@ pub fn channel(word: &str) -> Option<u8>
 {
     let channel = small_number(word)?;
     if channel < 64 { Some(channel) } else { None }
+}
+
+// The group that a word says.
+pub fn read_group(word: &str) -> Result<u16, Lack<'_>>
+    ensures { MatchResult result (λ n. group_said word.now ≡ Ok n) (λ l. group_said word.now ≡ Err (missing l)) }
+{
+    number(word).ok_or(Lack {
+        expected: Expected::Group,
+        found: word,
+    })
+}
+
+// The distance that a word says.
+pub fn read_distance(word: &str) -> Result<u8, Lack<'_>>
+    ensures { MatchResult result (λ n. distance_said word.now ≡ Ok n) (λ l. distance_said word.now ≡ Err (missing l)) }
+{
+    small_number(word).ok_or(Lack {
+        expected: Expected::Distance,
+        found: word,
+    })
+}
+
+// The channel that a word says, or what it is in place of one.
+pub fn read_channel(word: &str) -> Result<u8, Lack<'_>>
+    ensures said { MatchResult result (λ n. channel_said word.now ≡ Ok n) (λ l. channel_said word.now ≡ Err (missing l)) }
+    ensures low { IfOk result (λ n. n < 64) }
+{
+    channel(word).ok_or(Lack {
+        expected: Expected::Channel,
+        found: word,
+    })
 }

@@ -1,10 +1,10 @@
 // The bytes of a job written as text.
-ghost use Rattle.std.specs.Prelude.{◌≡◌, ◌≢◌, ℕ, ◌+◌, ◌*◌, ◌≤◌, ◌⊎◌, ◌++◌, List, length, None, codes, string_bytes, OnOk, MatchOption, MatchResult};
+ghost use Rattle.std.specs.Prelude.{◌≡◌, ◌≢◌, ℕ, ◌+◌, ◌*◌, ◌≤◌, ◌⊎◌, ◌++◌, List, length, None, codes, string_bytes, Some, OnOk, MatchOption, MatchResult};
 ghost use Rattle.rules.specs.Tables.{number, row as row_at};
 ghost use Rattle.jobs.specs.Records.{kind, unread, Shows, Sized};
 ghost use Rattle.jobs.specs.Jobs.{Accepts};
 ghost use Rattle.text.specs.declared.write.WriteFault.TheVariants.{Refused, NoMemory};
-ghost use Rattle.text.specs.Texts.{size_of, places, Unwritten, ListText, RowText, RowsText, head_text, TableText, RecordText, JobText};
+ghost use Rattle.text.specs.Texts.{Adds, size_of, places, Unwritten, ListText, RowText, RowsText, head_text, TableText, RecordText, JobText};
 
 use super::list::ChannelList;
 use jobs::fault::LoadFault;
@@ -42,6 +42,10 @@ impl From<AllocError> for WriteFault {
 }
 
 impl fmt::Display for WriteFault {
+    ghost use Rattle.text.specs.Accounts.{write_fault_text};
+
+    ghost output = { λ f. Some (write_fault_text f) };
+
     fn fmt<W: fmt::Write>(&self, f: &mut fmt::Formatter<W>) -> fmt::Result {
         match *self {
             WriteFault::Refused(fault) => {
@@ -87,7 +91,7 @@ fn row(body: &[u8], channel: u8) -> u64
 
 // Adds the line of a row, if the row has a channel.
 fn write_row(heap: Global, out: &mut String, channel: u8, row: u64) -> Result<(), AllocError>
-    ensures { OnOk result ((bs : List ℕ) × RowText channel row bs × (string_bytes out.new ≡ string_bytes out.old ++ bs)) }
+    ensures { OnOk result (Adds (RowText channel row) (string_bytes out.old) (string_bytes out.new)) }
 {
     if row == 0 {
         return Ok(());
@@ -99,7 +103,7 @@ fn write_row(heap: Global, out: &mut String, channel: u8, row: u64) -> Result<()
 // Adds the lines of the rows of a table.
 fn write_rows(heap: Global, out: &mut String, body: &[u8]) -> Result<(), AllocError>
     requires { 516 ≤ length body.now }
-    ensures { OnOk result ((bs : List ℕ) × RowsText body.now 4 64 bs × (string_bytes out.new ≡ string_bytes out.old ++ bs)) }
+    ensures { OnOk result (Adds (RowsText body.now 4 64) (string_bytes out.old) (string_bytes out.new)) }
 {
     for channel in 0..64u8 {
         write_row(heap, out, channel, row(body, channel))?;
@@ -127,7 +131,7 @@ fn write_head(out: &mut String, body: &[u8]) -> Result<(), AllocError>
 // Adds the lines of a table.
 fn write_table(heap: Global, out: &mut String, body: &[u8]) -> Result<(), AllocError>
     requires { 516 ≤ length body.now }
-    ensures { OnOk result ((bs : List ℕ) × TableText body.now bs × (string_bytes out.new ≡ string_bytes out.old ++ bs)) }
+    ensures { OnOk result (Adds (TableText body.now) (string_bytes out.old) (string_bytes out.new)) }
 {
     write_head(out, body)?;
     write_rows(heap, out, body)?;
@@ -137,7 +141,7 @@ fn write_table(heap: Global, out: &mut String, body: &[u8]) -> Result<(), AllocE
 // Adds the lines of a record.
 fn write_record(heap: Global, out: &mut String, read: Record<'_>) -> Result<(), AllocError>
     requires { Sized read }
-    ensures { OnOk result ((bs : List ℕ) × RecordText read.entry bs × (string_bytes out.new ≡ string_bytes out.old ++ bs)) }
+    ensures { OnOk result (Adds (RecordText read.entry) (string_bytes out.old) (string_bytes out.new)) }
 {
     match read {
         Record::End(_) => Ok(()),
@@ -176,7 +180,7 @@ fn next_record(job: &[u8], at: usize) -> Option<Record<'_>>
 // Adds the lines of all records before the end.
 fn write_records(heap: Global, out: &mut String, job: &[u8]) -> Result<(), AllocError>
     requires { (i : ℕ) × Accepts job.now places i }
-    ensures { OnOk result ((bs : List ℕ) × JobText job.now bs × (string_bytes out.new ≡ string_bytes out.old ++ bs)) }
+    ensures { OnOk result (Adds (JobText job.now) (string_bytes out.old) (string_bytes out.new)) }
 {
     let mut at = 0;
     while let Some(record) = next_record(job, at) {

@@ -1,11 +1,10 @@
-use Rattle.std.proofs.Common.{◌≡◌, ℕ, ◌*◌, List, length, take, vec_items, vec_len, sym, ap, ◌∙◌, subst, arith}
+use Rattle.std.proofs.Common.{◌≡◌, ℕ, ◌*◌, List, length, take, replicate, vec_items, vec_len, sym, ap, ◌∙◌, subst, arith}
 use Rattle.std.proofs.lemmas.List.{take_all}
-use Rattle.std.proofs.lemmas.Bool.{false≢true}
 use Rattle.jobs.specs.Jobs.{after}
 use Rattle.jobs.specs.Books.{book_of}
 use Rattle.planner.specs.declared.error.PlanError.{PlanError}
-use Rattle.planner.specs.Answers.{Unanswered, reached}
-use Rattle.planner.proofs.Openings.{book_same, open_taken, new_ready, came_home, unanswered, called_off, passed_on}
+use Rattle.planner.specs.Answers.{RefusedFor, Unanswered, reached}
+use Rattle.planner.proofs.Openings.{book_same, open_taken, new_ready, opened_refused, came_home, unanswered, called_off, passed_on}
 use Rattle.planner.proofs.solve.searched.Goals as goal
 
 pub returns-in_err-store : goal.returns-in_err-store
@@ -35,7 +34,8 @@ returns-in_err-sat g c =
     let new = c.in_ok-memory.ensures in
     passed_on c.from_residual-in_err-sat.result _ _ _ c.from_residual-in_err-sat.ensures.1
     (λ e x. called_off bs c.args.settings e st.0 st.1
-    (λ z. false≢true (c.in_err-sat.ensures.taken (new_ready bs store st _ c.as_slice-lists.result.now book own c.in_ok-search.search c.in_ok-search.ensures c.args.settings z c.in_ok-memory.memory new.plan new.base new.rest))))
+    (opened_refused _ _ c.in_ok-search.search c.in_ok-search.ensures c.args.settings c.in_ok-memory.memory new.base e
+    (subst (RefusedFor _) (sym x) (c.in_err-sat.ensures.refused (new_ready bs store st _ c.as_slice-lists.result.now book own c.in_ok-search.search c.in_ok-search.ensures c.args.settings.allowance c.in_ok-memory.memory new.plan new.rest)))))
 
 pub returns : goal.returns
 returns g c =
@@ -57,7 +57,7 @@ returns g c =
     let verdict : reached (take (length lists) (vec_items left.plan)) sat ≡ reached (vec_items left.plan) sat =
     ap (λ (xs : List ℕ). reached xs sat) (take_all (length lists) (vec_items left.plan) (omega arith)) in
     let came = came_home _ _ _ (book_of bs job) lists job.lists c.in_ok-search.search c.args.settings _ _ _ _ sat (reached (vec_items left.plan) sat) memory left
-    c.in_ok-search.ensures c.in_ok-sat.ensures.sat book own new.base verdict new.zeros in
+    c.in_ok-search.ensures c.in_ok-sat.ensures.sat book own new.base verdict (new.zeros.base ∙ ap (λ (n : ℕ). replicate n 0) new.base) in
     record {
       job = st.0;
       accepts = st.1;

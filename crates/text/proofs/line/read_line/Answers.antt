@@ -1,13 +1,13 @@
-use Rattle.std.proofs.Common.{◌≡◌, None, rules, refl, ◌∙◌, ap}
+use Rattle.std.proofs.Common.{rules, refl, ◌∙◌, ap}
 use Rattle.text.specs.declared.line.Keyword as keys
-use Rattle.text.specs.Lines.{group, gap, table, row, told, group_told}
+use Rattle.text.specs.Lines.{group, gap, table, row, group_told}
 use Rattle.text.proofs.Says.{line_is}
 use Rattle.text.proofs.line.read_line.Goals as goal
 
 pub returns-in_err-lone_list-in-Group : goal.returns-in_err-lone_list-in-Group
 returns-in_err-lone_list-in-Group c =
     let t = line_is c.args.text.now c.without_comment-said.result.now c.cut.result.0.now keys.TheVariants.Group c.without_comment-said.ensures c.cut.ensures.word c.in-Group.ensures in
-    let none : told c.args.text.now ≡ None = t ∙ ap group_told (rw c.cut.ensures.rest at c.in_err-lone_list-in-Group.ensures) in
+    let none = t ∙ ap group_told (rw c.cut.ensures.rest at c.in_err-lone_list-in-Group.ensures) in
     search rules
 
 pub returns-in_ok-lone_list-in-Group : goal.returns-in_ok-lone_list-in-Group
