@@ -14,7 +14,7 @@ use Rattle.search.specs.Sittings.{Tells}
 use Rattle.jobs.specs.Jobs.{after, Sound}
 use Rattle.jobs.specs.Books.{book_of}
 use Rattle.jobs.proofs.Decides.{first_is_one, end_stops}
-use Rattle.planner.specs.Stores.{places}
+use Rattle.jobs.specs.Jobs.{places}
 use Rattle.planner.specs.Sittings.{Between, between, left_by, SitsFrom, Ran, none_left, settled, goes_on, RanOnce}
 use Rattle.planner.specs.Answers.{Written, Comes, told_by, AnsweredOnce}
 

@@ -36,7 +36,8 @@ use Rattle.planner.specs.declared.error.PlanError.TheVariants.{Refused, NoMemory
 use Rattle.planner.specs.declared.memory.Memory.{Memory}
 use Rattle.planner.specs.declared.solve.Settings.{Settings}
 use Rattle.planner.specs.declared.store.Store.{Store}
-use Rattle.planner.specs.Stores.{places, Stored, Unstored}
+use Rattle.jobs.specs.Jobs.{places}
+use Rattle.planner.specs.Stores.{Stored, Unstored}
 use Rattle.jobs.proofs.Binds.{book_binds}
 use Rattle.planner.specs.Sittings.{between, Ran}
 use Rattle.planner.specs.Answers.{Shaped, Roomy, over_limits, Accepted, refusal_of, RefusedFor, StandsFor, Written, Clear, Ready, Comes, SatOn, Searched, reached, told_by, Answered, Unanswered, RefusedAsLoaded, program, program_order, AnsweredByProgram}

@@ -23,7 +23,7 @@ use Rattle.planner.specs.declared.error.PlanError.TheVariants.{NoMemory}
 use Rattle.planner.specs.declared.memory.Memory.{Memory}
 use Rattle.planner.specs.declared.report.Report.{Report}
 use Rattle.planner.specs.declared.solve.Settings.{Settings}
-use Rattle.planner.specs.Stores.{places}
+use Rattle.jobs.specs.Jobs.{places}
 use Rattle.planner.specs.Answers.{Accepted, Searched, Unanswered, RefusedAsLoaded, reached}
 use Rattle.planner.specs.Reports.{Tells, Reported}
 use Rattle.planner.proofs.Openings.{answered, no_answer}

@@ -33,7 +33,8 @@ use Rattle.search.specs.Turns.{state_of}
 use Rattle.search.specs.Calls.{asking}
 use Rattle.search.specs.Sittings.{Lent, lent, Tells}
 use Rattle.planner.specs.Sittings.{between, Ran}
-use Rattle.planner.specs.Stores.{places, Faulty, Unstored}
+use Rattle.jobs.specs.Jobs.{places}
+use Rattle.planner.specs.Stores.{Faulty, Unstored}
 
 -- a plan has one channel for each of n groups
 abbrev pub Shaped : ℕ → Verdict → Type 0

@@ -5,16 +5,12 @@ use Rattle.rules.specs.declared.table.TableEntry.{TableEntry}
 use Rattle.jobs.specs.declared.fault.LoadFault.{LoadFault}
 use Rattle.jobs.specs.declared.judge.Room.{Room}
 use Rattle.jobs.specs.declared.load.Loaded.{Loaded}
-use Rattle.jobs.specs.Jobs.{after, held, Accepts, Refuses}
+use Rattle.jobs.specs.Jobs.{after, held, places, Accepts, Refuses}
 use Rattle.planner.specs.declared.error.PlanError.{PlanError}
 use Rattle.planner.specs.declared.error.PlanError.TheVariants.{Refused, NoMemory}
 use Rattle.planner.specs.declared.store.Store.{Store}
 use Rattle.jobs.specs.Numbers.{numbered}
 use Rattle.rules.specs.Refusals.{told}
-
--- the places that the planner lends
-abbrev pub places : Room
-places = record { lists = 200; gaps = 4096; tables = 4096 }
 
 -- the lists, gaps and tables are those of the job's records, which have no fault
 abbrev pub Taken : List ℕ → Room → Loaded → List ℕ → List GapEntry → List TableEntry → Type 0

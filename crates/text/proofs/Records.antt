@@ -11,7 +11,8 @@ use Rattle.jobs.specs.declared.record.Record.TheVariants.{End, Group, Gap, Table
 use Rattle.jobs.specs.Records.{kind, size, unread, Shows}
 use Rattle.jobs.specs.Items.{item, told}
 use Rattle.jobs.specs.Jobs.{State, grown, after, ending, Accepts}
-use Rattle.text.specs.Texts.{size_of, places, RowText, RowsText, RecordText, RecordsText, JobText}
+use Rattle.jobs.specs.Jobs.{places}
+use Rattle.text.specs.Texts.{size_of, RowText, RowsText, RecordText, RecordsText, JobText}
 
 -- what is read stands in the job
 pub within : (bs : List ℕ) (p : ℕ) → unread bs p ≡ None → p + 1 + size (kind bs p) ≤ length bs

@@ -2,11 +2,10 @@
 use Rattle.std.specs.Prelude.{◌≡◌, ℕ, zero, suc, List, [], ◌++◌, map, codes, decimal, ◌==◌, MatchBool}
 use Rattle.rules.specs.Channels.{has}
 use Rattle.rules.specs.Tables.{number, row}
-use Rattle.jobs.specs.declared.judge.Room.{Room}
 use Rattle.jobs.specs.declared.record.Record.{Record}
 use Rattle.jobs.specs.declared.record.Record.TheVariants.{End, Group, Gap, Table}
 use Rattle.jobs.specs.Records.{Shows}
-use Rattle.jobs.specs.Jobs.{after, Accepts, Refuses}
+use Rattle.jobs.specs.Jobs.{after, places, Accepts, Refuses}
 use Rattle.text.specs.declared.span.Span.{Span}
 use Rattle.text.specs.declared.write.WriteFault.{WriteFault}
 use Rattle.text.specs.declared.write.WriteFault.TheVariants.{Refused, NoMemory}
@@ -22,10 +21,6 @@ size_of (End b) = 5
 size_of (Group b) = 9
 size_of (Gap b) = 6
 size_of (Table b) = 517
-
--- places for every job within the limits
-abbrev pub places : Room
-places = record { lists = 200; gaps = 4096; tables = 4096 }
 
 -- why a job is not written
 abbrev pub Unwritten : List ℕ → WriteFault → Type 0

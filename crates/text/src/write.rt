@@ -4,7 +4,8 @@ ghost use Rattle.rules.specs.Tables.{number, row as row_at};
 ghost use Rattle.jobs.specs.Records.{kind, unread, Shows, Sized};
 ghost use Rattle.jobs.specs.Jobs.{Accepts};
 ghost use Rattle.text.specs.declared.write.WriteFault.TheVariants.{Refused, NoMemory};
-ghost use Rattle.text.specs.Texts.{Adds, size_of, places, Unwritten, ListText, RowText, RowsText, head_text, TableText, RecordText, JobText};
+ghost use Rattle.jobs.specs.Jobs.{places};
+ghost use Rattle.text.specs.Texts.{Adds, size_of, Unwritten, ListText, RowText, RowsText, head_text, TableText, RecordText, JobText};
 
 use super::list::ChannelList;
 use jobs::fault::LoadFault;
