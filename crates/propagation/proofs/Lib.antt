@@ -13,3 +13,4 @@ pub mod Deciding
 pub mod Chaining
 pub mod Wiring
 pub mod Indexing
+pub mod Spacing

@@ -15,7 +15,7 @@ pub struct Bench<'r> {
 
 impl Bench<'_> {
     // What the first domains are, read into a region.
-    pub fn read(&self, to: &mut [u64])
+    pub(crate) fn read(&self, to: &mut [u64])
         requires { length to.old ≤ length self.now.domains.now }
         ensures { to.new ≡ take (length to.old) self.now.domains.now }
     {

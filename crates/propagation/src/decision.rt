@@ -23,7 +23,7 @@ use rules::book::RuleBook;
 
 impl<'d, B: RuleBook> Desk<'d, B> {
     // The rules and the nogoods, where nothing was amiss before group `g` came to keep the channels of `keeps`.
-    pub fn resume(&mut self, g: u16, keeps: u64) -> Result<(), Dead>
+    fn resume(&mut self, g: u16, keeps: u64) -> Result<(), Dead>
         requires laid { Laid (B.meaning self.old.book.now) self.old }
         requires alive { Alive self.old.domains.now (family self.old.domains.now) }
         requires small { Small self.old.domains.now }
@@ -42,7 +42,7 @@ impl<'d, B: RuleBook> Desk<'d, B> {
     }
 
     // The group of the decision of a word, and the channels that are left to it. (A method of its own, as `forced`.)
-    pub fn left_by(&self, word: u32) -> (usize, u64)
+    fn left_by(&self, word: u32) -> (usize, u64)
         requires { grp (assigned (decision word)) < length self.now.domains.now }
         ensures group { result.0 ≡ grp (assigned (decision word)) }
         ensures inside { (j : ℕ) → has result.1 j ≡ true → has (slice_index self.now.domains.now result.0) j ≡ true }
@@ -53,7 +53,7 @@ impl<'d, B: RuleBook> Desk<'d, B> {
     }
 
     // What remains once one more decision is made.
-    pub fn filter_decision(&mut self, lists: &[u64], branch: &[u32]) -> Result<(), Dead>
+    fn filter_decision(&mut self, lists: &[u64], branch: &[u32]) -> Result<(), Dead>
         requires laid { Laid (B.meaning self.old.book.now) self.old }
         requires groups { length lists.now ≡ (B.meaning self.old.book.now).groups }
         requires some { 0 < length branch.now }

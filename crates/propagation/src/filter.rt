@@ -20,7 +20,7 @@ use super::start::{decide_all, some_empty};
 use rules::book::RuleBook;
 
 // The lists after the decisions.
-pub fn prepare(lists: &[u64], branch: &[u32], domains: &mut [u64]) -> Result<(), Dead>
+fn prepare(lists: &[u64], branch: &[u32], domains: &mut [u64]) -> Result<(), Dead>
     requires size { length domains.old ≡ length lists.now }
     requires groups { GroupsBelow (length domains.old) branch.now }
     ensures inside { Inside (family domains.new) (family lists.now) }
@@ -39,7 +39,7 @@ pub fn prepare(lists: &[u64], branch: &[u32], domains: &mut [u64]) -> Result<(),
 
 impl<'d, B: RuleBook> Desk<'d, B> {
     // The rules and the nogoods, with the ends across from narrow groups in line at first.
-    pub fn run(&mut self) -> Result<(), Dead>
+    fn run(&mut self) -> Result<(), Dead>
         requires laid { Laid (B.meaning self.old.book.now) self.old }
         requires alive { Alive self.old.domains.now (family self.old.domains.now) }
         requires small { Small self.old.domains.now }
@@ -56,7 +56,7 @@ impl<'d, B: RuleBook> Desk<'d, B> {
     }
 
     // What remains of the lists after the decisions, the rules and the nogoods.
-    pub fn filter(&mut self, lists: &[u64], branch: &[u32]) -> Result<(), Dead>
+    fn filter(&mut self, lists: &[u64], branch: &[u32]) -> Result<(), Dead>
         requires laid { Laid (B.meaning self.old.book.now) self.old }
         requires groups { length lists.now ≡ (B.meaning self.old.book.now).groups }
         requires decided { GroupsBelow (length lists.now) branch.now }

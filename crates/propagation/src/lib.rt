@@ -1,23 +1,23 @@
 // What remains of the lists after decisions, rules and recorded nogoods.
 #![tactic(auto)]
 
-pub mod across;
+mod across;
 pub mod bench;
 pub mod decision;
-pub mod desk;
-pub mod ends;
+mod desk;
+mod ends;
 pub mod filter;
-pub mod heed;
-pub mod index;
-pub mod line;
+mod heed;
+mod index;
+mod line;
 pub mod links;
-pub mod nogood;
+mod nogood;
 pub mod records;
-pub mod revise;
+mod revise;
 pub mod ring;
-pub mod shrink;
-pub mod spreads;
-pub mod start;
-pub mod walk;
-pub mod wires;
-pub mod work;
+mod shrink;
+mod spreads;
+mod start;
+mod walk;
+mod wires;
+mod work;

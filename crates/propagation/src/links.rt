@@ -3,7 +3,6 @@ ghost use Rattle.std.specs.Prelude.{◌≡◌, ℕ, ◌≤◌, [], length, take,
 ghost use Rattle.std.specs.List.{AllByRecursion};
 ghost use Rattle.model.specs.Words.{recorded, base_of};
 ghost use Rattle.propagation.specs.Bases.{Grouped};
-ghost use Rattle.propagation.specs.Wires.{Facing};
 ghost use Rattle.propagation.specs.Indexed.{Knows};
 ghost use Rattle.propagation.specs.Links.{Linked};
 
@@ -25,8 +24,7 @@ impl Links {
     pub fn new<B: RuleBook>(book: &B) -> Links
         requires groups { (B.meaning book.now).groups ≤ 200 }
         requires rules { (B.meaning book.now).count ≤ 4096 }
-        ensures linked { Linked (B.meaning book.now) [] result }
-        ensures idle { (g : ℕ) → ((n : ℕ) → Facing (B.meaning book.now) g n → ⊥) → slice_index result.spreads g ≡ 0 }
+        ensures { Linked (B.meaning book.now) [] result }
     {
         let mut wires = [None; CHAINS];
         wire(book, &mut wires);

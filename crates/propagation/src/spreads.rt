@@ -1,8 +1,6 @@
 // How far two channels of a group have to be apart for every channel across from it to go with one of them.
-ghost use Rattle.std.specs.Prelude.{◌≡◌, ℕ, ◌+◌, ◌<◌, ◌≤◌, Bool, ◌≢◌, ◌⊎◌, length, slice_index};
-ghost use Rattle.propagation.specs.Waits.{at_end};
-ghost use Rattle.propagation.specs.Wires.{Facing};
-ghost use Rattle.propagation.specs.Spreads.{Enough, Spreads};
+ghost use Rattle.std.specs.Prelude.{◌≡◌, ℕ, ◌+◌, ◌<◌, ◌≤◌, ◌≢◌, ◌⊎◌, length, slice_index};
+ghost use Rattle.propagation.specs.Spreads.{SpreadsBelow, Spreads};
 
 use rules::book::RuleBook;
 
@@ -22,9 +20,8 @@ pub fn widen(spreads: &mut [u32], g: u16, w: u32)
 pub fn spread_rule<B: RuleBook>(book: &B, spreads: &mut [u32], i: u32)
     requires size { length spreads.old ≡ 200 }
     requires groups { (B.meaning book.now).groups ≤ 200 }
-    requires before { Enough (B.meaning book.now) i spreads.old }
-    ensures enough { Enough (B.meaning book.now) (i + 1) spreads.new }
-    ensures others { (h : ℕ) → ((s : Bool) → Facing (B.meaning book.now) h (at_end i s) → ⊥) → slice_index spreads.new h ≡ slice_index spreads.old h }
+    requires before { SpreadsBelow (B.meaning book.now) i spreads.old }
+    ensures { SpreadsBelow (B.meaning book.now) (i + 1) spreads.new }
 {
     if let Some((first, second)) = book.ends(i) {
         widen(spreads, second, book.spread(i, false));
@@ -32,12 +29,12 @@ pub fn spread_rule<B: RuleBook>(book: &B, spreads: &mut [u32], i: u32)
     }
 }
 
-// All rules of the book.
+// All rules of the book, over places that say nothing yet.
 pub fn spread<B: RuleBook>(book: &B, spreads: &mut [u32])
     requires size { length spreads.old ≡ 200 }
     requires groups { (B.meaning book.now).groups ≤ 200 }
-    ensures spread { Spreads (B.meaning book.now) spreads.new }
-    ensures others { (h : ℕ) → ((n : ℕ) → Facing (B.meaning book.now) h n → ⊥) → slice_index spreads.new h ≡ slice_index spreads.old h }
+    requires blank { (g : ℕ) → slice_index spreads.old g ≡ 0 }
+    ensures { Spreads (B.meaning book.now) spreads.new }
 {
     // Rules have numbers and no list to go over.
     for i in 0..book.count() {

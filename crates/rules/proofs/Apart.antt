@@ -1,12 +1,13 @@
 -- What two channels across, or a set of them, support, in the books. Assumes nothing.
-use Rattle.std.proofs.Common.{◌≡◌, ℕ, ◌+◌, ◌-◌, ◌<◌, ◌≤◌, Bool, true, false, ◌&&◌, ◌||◌, leb, ltb, min, ◌⊎◌, List, is_some, get_or, sym, ◌∙◌, subst, inl, inr, arith}
-use Rattle.std.proofs.lemmas.Bool.{and_parts, and_from, or_cases, or_left, or_right, leb-true, le-leb, ltb-true, lt-ltb, cond-true, cond-false, le-ltb}
+use Rattle.std.proofs.Common.{◌≡◌, ℕ, ◌+◌, ◌-◌, ◌*◌, ◌/◌, ◌<◌, ◌≤◌, Bool, true, false, ◌&&◌, ◌||◌, leb, ltb, min, ◌⊎◌, List, is_some, get_or, sym, ◌∙◌, inl, inr, arith}
+use Rattle.std.proofs.lemmas.Bool.{and_parts, and_from, or_cases, or_left, or_right, leb-true, le-leb, ltb-true, lt-ltb, cond-true, cond-false, le-ltb, cases_lt, cases_eq, cases_Bool}
 use Rattle.rules.specs.Channels.{has}
 use Rattle.rules.specs.Meanings.{Meaning, most}
 use Rattle.rules.specs.Gaps.{gaps, no_gap}
 use Rattle.rules.specs.Joins.{joined}
-use Rattle.rules.specs.Supports.{allows, Kept, Spread}
+use Rattle.rules.specs.Supports.{allows, Kept, Serves, Spread}
 use Rattle.rules.specs.declared.gap.GapEntry.{GapEntry}
+use Rattle.rules.proofs.Spreading.{Asked, serves_like, least_from, spread_bound}
 
 -- a rule that says the same as another
 module _ (m m' : Meaning) (i i' : ℕ) (ends : m.ends i ≡ m'.ends i') (permits : (a b : ℕ) → m.permits i a b ≡ m'.permits i' a b) where
@@ -15,9 +16,11 @@ module _ (m m' : Meaning) (i i' : ℕ) (ends : m.ends i ≡ m'.ends i') (permits
   same_allows true a b = permits b a
 
   pub same_spread : (s : Bool) (w : ℕ) → Spread m' i' s w → Spread m i s w
-  same_spread s w h n a b c l r k =
-      subst (λ (x : Bool). (allows m i s a b || x) ≡ true) (sym (same_allows s a c))
-      (subst (λ (x : Bool). (x || allows m' i' s a c) ≡ true) (sym (same_allows s a b)) (h (λ e. n (ends ∙ e)) a b c l r k))
+  same_spread s w h = record {
+    blank = λ e. h.blank (sym ends ∙ e);
+    enough = λ n. serves_like (allows m' i' s) (allows m i s) (λ a b _ _. sym (same_allows s a b)) w (h.enough (λ e. n (ends ∙ e)));
+    least = λ n v f. h.least (λ e. n (ends ∙ e)) v (λ _. serves_like (allows m i s) (allows m' i' s) (λ a b _ _. same_allows s a b) v (f n));
+  }
 
 -- the rules of a joined book
 pub first_spread : (f t : Meaning) (i : ℕ) → i < f.count → (s : Bool) (w : ℕ) → Spread f i s w → Spread (joined f t) i s w
@@ -47,6 +50,37 @@ module _ (n : ℕ) (es : List GapEntry) (i : ℕ) (bound : is_some ((gaps n es).
       let p = and_parts _ _ (and_parts _ _ h).1 in
       let q = and_parts _ _ p.1 in
       (ltb-true a 64 q.0, ltb-true b 64 p.0, elim (or_cases _ _ q.1) [ inl e ↦ inr (leb-true (b + gap) a e) | inr e ↦ inl (leb-true (a + gap) b e) ])
+
+  -- of two channels across, twice the gap apart, less one, each channel is the gap away from one
+  abbrev wide : ℕ
+  wide = min (2 * gap - 1) 64
+
+  pub wide_serves : (s : Bool) → Serves (allows (gaps n es) i s) wide
+  wide_serves s a b c l r u = elim (cases_lt c (a + gap)) [
+    | inl d ↦ or_left _ _ (wide_allows s a b l (omega arith) (elim (cases_lt a (b + gap)) [ inl f ↦ absurd (omega arith) | inr f ↦ inr f ]))
+    | inr d ↦ or_right _ _ (wide_allows s a c l u (inl d))
+  ]
+
+  not_allowed : (s : Bool) (a b : ℕ) → ((a + gap ≤ b) ⊎ (b + gap ≤ a) → ⊥) → allows (gaps n es) i s a b ≡ false
+  not_allowed s a b h = elim (cases_Bool (allows (gaps n es) i s a b)) [ inl e ↦ absurd (h (allows_wide s a b e).2) | inr e ↦ e ]
+
+  pub wide_asked : (s : Bool) → Asked (allows (gaps n es) i s) wide
+  wide_asked s = elim (cases_eq wide 0) [
+    | inl e ↦ inl e
+    | inr d ↦ inr (record {
+      near = (wide - 1) / 2;
+      low = 0;
+      high = wide - 1;
+      near_in = omega arith;
+      apart = omega arith;
+      high_in = omega arith;
+      not_low = not_allowed s _ _ (λ w. elim w [ inl e ↦ omega arith | inr e ↦ omega arith ]);
+      not_high = not_allowed s _ _ (λ w. elim w [ inl e ↦ omega arith | inr e ↦ omega arith ]);
+    })
+  ]
+
+  pub wide_spread : (s : Bool) → Spread (gaps n es) i s wide
+  wide_spread s = spread_bound (gaps n es) i s wide bound (least_from (allows (gaps n es) i s) wide (wide_serves s) (wide_asked s))
 
   -- what is far enough from the lowest channel across, or from the highest
   module _ (s : Bool) (set across low high kept : ℕ) (low_in : low < 64) (low_has : has across low ≡ true) (least : (j : ℕ) → has across j ≡ true → low ≤ j)

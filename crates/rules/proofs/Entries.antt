@@ -9,6 +9,7 @@ use Rattle.rules.specs.Meanings.{Meaning, Lawful, Apart, sound, listed_ends, mos
 use Rattle.rules.specs.Tables.{tables, tables_lawful, no_table, row}
 use Rattle.rules.specs.declared.gap.GapEntry.{GapEntry}
 use Rattle.rules.specs.declared.table.TableEntry.{TableEntry}
+use Rattle.rules.proofs.Apart.{wide_spread}
 
 pub sound_some : (n : ℕ) (e : ℕ × ℕ) → Apart n e → sound n e ≡ Some e
 sound_some n e a =
@@ -76,6 +77,7 @@ module _ (n : ℕ) (es : List GapEntry) where
     second = λ i h. gap_blank i (sound_second n (groups_of i) h);
     widest = λ i h a e.
         (gap_permits i 0 63 h a (omega arith) (omega arith) ∙ ap (λ g. gapped g 0 63) e, gap_permits i 0 62 h a (omega arith) (omega arith) ∙ ap (λ g. gapped g 0 62) e);
+    spread = λ i s h a. wide_spread n es i (ap is_some (gap_ends i h a)) s;
     none = λ i x h a e l. gap_permits i x x h a l l ∙ (ap (λ g. gapped g x x) e ∙ or_left (leb (x + 0) x) (leb (x + 0) x) (le-leb (x + 0) x (omega arith)));
   }
 

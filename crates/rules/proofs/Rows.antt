@@ -1,7 +1,7 @@
 -- Channels in a row, and two sets joined or cut. Assumes nothing.
-use Rattle.std.proofs.Common.{◌≡◌, ℕ, zero, suc, ◌-◌, ◌/◌, ◌%◌, ◌^◌, ◌<◌, ◌≤◌, true, ◌&&◌, ◌||◌, eqb, leb, ltb, min, max, bit_and, bit_or, sym, refl, ap, ◌∙◌, inl, inr, arith}
-use Rattle.std.proofs.lemmas.Bool.{cases_lt, and_left, and_right, and_from, le-leb, lt-leb, lt-ltb, le-ltb}
-use Rattle.std.proofs.lemmas.Nat.Bits.{bit_at_mask_inside, bit_at_mask_below, bit_at_mask_above, bit_at_and, bit_at_or, bit_at-lt}
+use Rattle.std.proofs.Common.{◌≡◌, ℕ, zero, suc, ◌-◌, ◌/◌, ◌%◌, ◌^◌, ◌<◌, ◌≤◌, true, not, ◌&&◌, ◌||◌, eqb, leb, ltb, min, max, bit_and, bit_or, sym, refl, ap, ◌∙◌, inl, inr, w64, arith}
+use Rattle.std.proofs.lemmas.Bool.{cases_lt, cases_eq, eq-eqb, and_left, and_right, and_from, le-leb, lt-leb, lt-ltb, le-ltb}
+use Rattle.std.proofs.lemmas.Nat.Bits.{bit_at_not, bit_at_ones, bit_at-pow_same, bit_at-pow_other, bit_at_mask_inside, bit_at_mask_below, bit_at_mask_above, bit_at_and, bit_at_or, bit_at-lt}
 use Rattle.rules.specs.Channels.{has}
 use Rattle.rules.proofs.Digits.{dig, dig_zero, dig_suc, dig_below, has_dig}
 use lib.Count.{count_trailing_zeros, under}
@@ -38,6 +38,25 @@ and_has a b j = ap (λ (x : ℕ). eqb x 1) (bit_at_and a b j) ∙ both_digits _ 
 
 pub or_has : (a b j : ℕ) → has (bit_or a b) j ≡ (has a j || has b j)
 or_has a b j = ap (λ (x : ℕ). eqb x 1) (bit_at_or a b j) ∙ some_digit _ _ (bit_at-lt a j) (bit_at-lt b j)
+
+-- the channels that a set lacks
+not_digit : (p : ℕ) → p < 2 → eqb (1 - p) 1 ≡ not (eqb p 1)
+not_digit zero l = refl
+not_digit (suc zero) l = refl
+not_digit (suc (suc p)) l = absurd (omega arith)
+
+pub not_has : (m j : ℕ) → m < 2 ^ 64 → j < 64 → has (2 ^ 64 - 1 - m) j ≡ not (has m j)
+not_has m j q l = ap (λ (x : ℕ). eqb x 1) (bit_at_not w64 m j q l) ∙ not_digit _ (bit_at-lt m j)
+
+-- every channel, and one alone
+pub all_has : (j : ℕ) → j < 64 → has (2 ^ 64 - 1) j ≡ true
+all_has j l = eq-eqb _ _ (bit_at_ones 64 j l)
+
+pub one_has : (c : ℕ) → has (2 ^ c) c ≡ true
+one_has c = eq-eqb _ _ (bit_at-pow_same c)
+
+pub one_has_only : (c j : ℕ) → has (2 ^ c) j ≡ true → j ≡ c
+one_has_only c j h = elim (cases_eq j c) [ inl e ↦ e | inr d ↦ absurd (let z = bit_at-pow_other c j d in let y = has_dig (2 ^ c) j h in omega arith) ]
 
 -- no channel is below the lowest, and none above the highest
 pub trailing_least : (d m j : ℕ) → dig m j ≡ 1 → count_trailing_zeros d m ≤ j

@@ -1,13 +1,18 @@
 -- The channels that a table's rows support, from one end and from the other. Assumes nothing.
-use Rattle.std.proofs.Common.{◌≡◌, ℕ, ◌^◌, ◌<◌, true, false, ltb, Decides, List, bit_and, bit_or, is_some, get_or, sym, ◌∙◌, subst, inl, inr, arith}
+use Rattle.std.proofs.Common.{◌≡◌, ℕ, ◌-◌, ◌^◌, ◌<◌, true, false, not, ltb, Decides, List, bit_and, bit_or, is_some, get_or, sym, ap, ◌∙◌, subst, inl, inr, arith}
 use Rattle.std.proofs.lemmas.Bool.{and_parts, and_from, or_cases, or_left, or_right, lt-ltb, cases_eq, cases_Bool, both_ways}
 use Rattle.std.proofs.lemmas.Nat.{and_le_r}
 use Rattle.rules.specs.Channels.{has}
-use Rattle.rules.specs.Supports.{Kept}
+use Rattle.rules.specs.Supports.{allows, Kept, Least, Spread}
 use Rattle.rules.specs.Tables.{tables, row, no_table, Meets, Reached}
 use Rattle.rules.specs.declared.table.TableEntry.{TableEntry}
 use Rattle.rules.proofs.Digits.{Cut, cut_inside, cut_stays, has_none, has_some, has_below}
-use Rattle.rules.proofs.Rows.{and_has, or_has}
+use Rattle.rules.proofs.Rows.{and_has, or_has, not_has}
+use Rattle.rules.proofs.Spreading.{least_like, spread_bound}
+
+-- what a row lacks
+pub row_lacks : (bs : List ℕ) (o a r : ℕ) → r ≡ row bs o a → r < 2 ^ 64 → (b : ℕ) → b < 64 → has (2 ^ 64 - 1 - r) b ≡ not (has (row bs o a) b)
+row_lacks bs o a r e q b l = not_has r b q l ∙ ap (λ (x : ℕ). not (has x b)) e
 
 module _ (bs : List ℕ) (o across : ℕ) where
   -- a row with no channel of the set, and with one
@@ -84,3 +89,19 @@ module _ (n : ℕ) (bs : List ℕ) (es : List TableEntry) (i : ℕ) (bound : is_
       where
         parts : (j : ℕ) → has kept j ≡ true → (has set j ≡ true) × (has all j ≡ true)
         parts j h = and_parts _ _ (sym (and_has set all j) ∙ subst (λ (x : ℕ). has x j ≡ true) e h)
+
+  -- the least distance in the rows, and in the columns, is the spread at the one end and at the other
+  row_as : (a b : ℕ) → a < 64 → b < 64 → has (row bs at a) b ≡ (tables n bs es).permits i a b
+  row_as a b k l = elim (cases_Bool (has (row bs at a) b)) [
+    | inl e ↦ e ∙ sym (row_permits a b k l e)
+    | inr e ↦ elim (cases_Bool ((tables n bs es).permits i a b)) [
+      | inl f ↦ absurd (both_ways (has (row bs at a) b) e (permits_row a b f))
+      | inr f ↦ e ∙ sym f
+    ]
+  ]
+
+  pub rows_spread : (w : ℕ) → Least (λ a b. has (row bs at a) b) w → Spread (tables n bs es) i false w
+  rows_spread w h = spread_bound (tables n bs es) i false w bound (least_like (λ a b. has (row bs at a) b) (allows (tables n bs es) i false) row_as w h)
+
+  pub columns_spread : (w : ℕ) → Least (λ b a. has (row bs at a) b) w → Spread (tables n bs es) i true w
+  columns_spread w h = spread_bound (tables n bs es) i true w bound (least_like (λ b a. has (row bs at a) b) (allows (tables n bs es) i true) (λ b a k l. row_as a b l k) w h)

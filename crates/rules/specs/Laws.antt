@@ -1,9 +1,10 @@
 -- Laws of the books, in the words of the field. Assumes nothing.
-use Rattle.std.specs.Prelude.{◌≡◌, ℕ, ◌+◌, ◌-◌, ◌<◌, ◌≤◌, min, max, true, false, List, length, Some, None, Decides, slice_index_or}
+use Rattle.std.specs.Prelude.{◌≡◌, ℕ, ◌+◌, ◌-◌, ◌*◌, ◌<◌, ◌≤◌, min, max, Bool, true, false, List, length, Some, None, Decides, slice_index_or}
 use Rattle.rules.specs.Channels.{Has}
 use Rattle.rules.specs.Gaps.{gaps, no_gap}
 use Rattle.rules.specs.Joins.{joined}
-use Rattle.rules.specs.Meanings.{Meaning, Apart, most}
+use Rattle.rules.specs.Meanings.{Meaning, Lawful, Apart, most}
+use Rattle.rules.specs.Supports.{Spread}
 use Rattle.rules.specs.Tables.{tables, no_table, row}
 use Rattle.rules.specs.declared.gap.GapEntry.{GapEntry}
 use Rattle.rules.specs.declared.table.TableEntry.{TableEntry}
@@ -37,6 +38,9 @@ pub record GapLaws (n : ℕ) (es : List GapEntry) : Type 0 where
       ((gaps n es).permits i 0 63 ≡ true) × ((gaps n es).permits i 0 62 ≡ false)
   pub none : (i a : ℕ) → i < min (length es) most → Apart n ((slice_index_or es i no_gap).first, (slice_index_or es i no_gap).second) → (slice_index_or es i no_gap).gap ≡ 0 → a < 64 →
       (gaps n es).permits i a a ≡ true
+  -- of two channels twice the gap apart, less one, each is the gap away from one; no two are 64 apart
+  pub spread : (i : ℕ) (s : Bool) → i < min (length es) most → Apart n ((slice_index_or es i no_gap).first, (slice_index_or es i no_gap).second) →
+      Spread (gaps n es) i s (min (2 * (slice_index_or es i no_gap).gap - 1) 64)
 
 -- A table book: rule i is entry i, and row a is the number in the 8 bytes from the entry's offset + 8 × a on.
 pub record TableLaws (n : ℕ) (bs : List ℕ) (es : List TableEntry) : Type 0 where
@@ -65,3 +69,13 @@ TableBooks = (n : ℕ) (bs : List ℕ) (es : List TableEntry) → TableLaws n bs
 
 abbrev pub JoinedBooks : Type 0
 JoinedBooks = (f s : Meaning) → JoinedLaws f s
+
+-- A rule has one spread at each end, which is at most 64, and 0 past the count.
+pub record SpreadLaws (book : Meaning) (i : ℕ) (s : Bool) : Type 0 where
+  pub some : (w : ℕ) × Spread book i s w
+  pub one : (v w : ℕ) → Spread book i s v → Spread book i s w → v ≡ w
+  pub within : (w : ℕ) → Spread book i s w → w ≤ 64
+  pub past : (w : ℕ) → Spread book i s w → book.count ≤ i → w ≡ 0
+
+abbrev pub OneSpread : Type 0
+OneSpread = (book : Meaning) → Lawful book → (i : ℕ) (s : Bool) → SpreadLaws book i s

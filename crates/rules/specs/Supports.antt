@@ -27,6 +27,21 @@ pub record Kept (m : Meaning) (i : ℕ) (s : Bool) (set across kept : ℕ) : Typ
   pub backed : (j : ℕ) → has kept j ≡ true → Backed m i s across j
   pub all : (j : ℕ) → has set j ≡ true → Backed m i s across j → has kept j ≡ true
 
--- Of two channels across that are so far apart, each channel goes with one, where the rule binds.
-abbrev pub Spread : Meaning → ℕ → Bool → ℕ → Type 0
-Spread m i s w = (m.ends i ≡ None → ⊥) → (a b c : ℕ) → a < 64 → b + w ≤ c → c < 64 → (allows m i s a b || allows m i s a c) ≡ true
+-- Of two channels across that are w or more apart, each channel at this end goes with one, by a test of the two ends.
+abbrev pub Serves : (ℕ → ℕ → Bool) → ℕ → Type 0
+Serves goes w = (a b c : ℕ) → a < 64 → b + w ≤ c → c < 64 → (goes a b || goes a c) ≡ true
+
+-- The least distance with which that is so.
+pub record Least (goes : ℕ → ℕ → Bool) (w : ℕ) : Type 0 where
+  pub serves : Serves goes w
+  pub least : (v : ℕ) → Serves goes v → w ≤ v
+
+-- Two channels across that are w or more apart serve every channel at this end, where the rule binds.
+abbrev pub Enough : Meaning → ℕ → Bool → ℕ → Type 0
+Enough m i s w = (m.ends i ≡ None → ⊥) → Serves (allows m i s) w
+
+-- The least distance that is enough; 0 where the rule binds nothing.
+pub record Spread (m : Meaning) (i : ℕ) (s : Bool) (w : ℕ) : Type 0 where
+  pub blank : m.ends i ≡ None → w ≡ 0
+  pub enough : Enough m i s w
+  pub least : (m.ends i ≡ None → ⊥) → (v : ℕ) → Enough m i s v → w ≤ v

@@ -1,7 +1,7 @@
 // Sets of channels as 64-bit numbers.
 ghost use Rattle.std.specs.Prelude.{◌≡◌, ℕ, ◌<◌, ◌≤◌, min, true, not, ◌&&◌, ◌==◌, nat_le, nat_lt};
 ghost use Rattle.std.specs.Iterator.{at_most};
-ghost use Rattle.rules.specs.Channels.{has};
+ghost use Rattle.rules.specs.Channels.{has, Spans};
 ghost use Rattle.rules.specs.Takings.{TakesOne};
 
 use super::channels::has_channel;
@@ -38,6 +38,17 @@ pub fn highest(set: u64) -> u8
     ensures most { (j : ℕ) → has set j ≡ true → j ≤ result }
 {
     set.ilog2() as u8
+}
+
+// How many channels there are from the lowest of a set to the highest, both counted.
+pub fn span(set: u64) -> u32
+    ensures { Spans set result }
+{
+    if set == 0 {
+        0
+    } else {
+        u32::from(highest(set) - lowest(set)) + 1
+    }
 }
 
 // The channels from `c` on.

@@ -1,9 +1,12 @@
-use Rattle.std.proofs.Common.{◌≡◌, ℕ, true, false, Some, sym, refl, ◌∙◌}
+use Rattle.std.proofs.Common.{◌≡◌, ℕ, Some, sym}
+use Rattle.propagation.proofs.Spacing.{spreads_both}
 use Rattle.propagation.proofs.spreads.spread_rule.Goals as goal
 
-pub returns-in-Some-clause-others : goal.returns-in-Some-clause-others
-returns-in-Some-clause-others g c = λ h n.
+pub returns-in-Some : goal.returns-in-Some
+returns-in-Some g c =
     let m = g.B.RuleBook.meaning c.args.book.now in
     let e : ℕ × ℕ = (c.in-Some.first, c.in-Some.second) in
     let is : m.ends c.args.i ≡ Some e = sym c.in-Some.ensures.read in
-    c.widen-in-Some.ensures.others h (λ q. n true (c.args.i, true, e, refl, is, sym q)) ∙ c.widen.ensures.others h (λ q. n false (c.args.i, false, e, refl, is, sym q))
+    spreads_both m c.args.spreads.now c.widen.new.spreads c.widen-in-Some.new.spreads c.args.i e c.spread.result c.spread-in-Some.result c.requires.before is c.spread.ensures c.spread-in-Some.ensures
+    c.widen.ensures.more c.widen.ensures.here c.widen.ensures.no_more c.widen.ensures.others
+    c.widen-in-Some.ensures.more c.widen-in-Some.ensures.here c.widen-in-Some.ensures.no_more c.widen-in-Some.ensures.others
