@@ -1,7 +1,8 @@
 -- Fewest first. Assumes nothing.
 use Rattle.std.specs.Prelude.{ℕ, zero, suc, ◌<◌, ◌≤◌, cond, ◌&&◌, List, length, Some, None, Option, MatchOption, nat_lt, slice_index}
 use Rattle.std.specs.Int.Count.{count_trailing_zeros}
-use Rattle.branching.specs.Channels.{count, Open, open?}
+use Rattle.rules.specs.Channels.{Has}
+use Rattle.branching.specs.Channels.{count, Open, open?, Lowest}
 use Rattle.branching.specs.Order.{OrderMeaning}
 
 -- g has the least number from two up among the first n groups, and is the lowest such
@@ -14,6 +15,10 @@ pub record FewestOf (ms : List ℕ) (n g : ℕ) : Type 0 where
 -- no group has two or more, or the answer is the one with the least number, and the lowest such
 abbrev pub FewestAnswer : List ℕ → Option ℕ → Type 0
 FewestAnswer ms a = MatchOption a ((j : ℕ) → j < length ms → Open ms j → ⊥) (λ g. FewestOf ms (length ms) g)
+
+-- nothing remains in the group's domain, or the answer is the lowest channel that does
+abbrev pub LowestAnswer : List ℕ → ℕ → Option ℕ → Type 0
+LowestAnswer ms g a = MatchOption a ((c : ℕ) → Has (slice_index ms g) c → ⊥) (λ c. Lowest (slice_index ms g) c)
 
 -- the group i, after the best b of those before it
 abbrev pub after : List ℕ → ℕ → Option ℕ → Option ℕ

@@ -65,8 +65,8 @@ remains_from (suc n) = (lowest_is (suc n)).0
 
 pub fewest_lawful : Lawful fewest_first
 fewest_lawful = record {
-  branches = λ h ms. branches_from ms (fewest ms) (fewest_of_is ms (length ms));
-  remains = λ h ms g. remains_from (slice_index ms g);
+  branches = λ h ms _. branches_from ms (fewest ms) (fewest_of_is ms (length ms));
+  remains = λ h ms g _. remains_from (slice_index ms g);
 }
 
 -- ---- the loop, which holds the best group so far with its count

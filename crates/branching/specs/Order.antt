@@ -1,5 +1,5 @@
 -- What an order answers and how its holdings change, as functions of the holdings, and what it must show. Assumes nothing.
-use Rattle.std.specs.Prelude.{ℕ, List, Some, None, Option, MatchOption, slice_index}
+use Rattle.std.specs.Prelude.{ℕ, ◌<◌, ◌≤◌, ◌^◌, List, length, Some, None, Option, MatchOption, slice_index}
 use Rattle.rules.specs.Channels.{Has}
 use Rattle.branching.specs.Channels.{Open}
 
@@ -18,9 +18,15 @@ Branches ms a = MatchOption a ((g : ℕ) → Open ms g → ⊥) (λ g. Open ms g
 abbrev pub Remains : List ℕ → ℕ → Option ℕ → Type 0
 Remains ms g a = MatchOption a ((c : ℕ) → Has (slice_index ms g) c → ⊥) (λ c. Has (slice_index ms g) c)
 
+-- What an order is asked about: the domains of at most 200 groups, each a 64-bit word.
+pub record Domains (ms : List ℕ) : Type 0 where
+  pub few : length ms ≤ 200
+  pub words : (g : ℕ) → slice_index ms g < 2 ^ 64
+
+-- What an order must show, of what it is asked about and of no more.
 pub record Lawful {H : Type 0} (o : OrderMeaning H) : Type 0 where
-  pub branches : (h : H) (ms : List ℕ) → Branches ms (o.group h ms)
-  pub remains : (h : H) (ms : List ℕ) (g : ℕ) → Remains ms g (o.channel h ms g)
+  pub branches : (h : H) (ms : List ℕ) → Domains ms → Branches ms (o.group h ms)
+  pub remains : (h : H) (ms : List ℕ) (g : ℕ) → Domains ms → Remains ms g (o.channel h ms g)
 
 -- the group and then the channel that an order answers, and what it holds after both questions
 abbrev pub paired : ℕ → Option ℕ → Option (ℕ × ℕ)

@@ -1,9 +1,9 @@
 // Orders by what they answer and hold, and fewest first.
-ghost use Rattle.std.specs.Prelude.{◌≡◌, ℕ, ◌<◌, ◌≤◌, ◌&&◌, List, length, MatchOption, nat_le};
+ghost use Rattle.std.specs.Prelude.{◌≡◌, ℕ, ◌<◌, ◌≤◌, ◌&&◌, List, length, MatchOption, nat_le, slice_index};
 ghost use Rattle.rules.specs.Channels.{Has};
 ghost use Rattle.branching.specs.Channels.{Open};
 ghost use Rattle.branching.specs.Order.{OrderMeaning, Lawful, choice, chosen, GoodChoice};
-ghost use Rattle.branching.specs.Fewest.{FewestAnswer, fewest, fewest_first};
+ghost use Rattle.branching.specs.Fewest.{FewestAnswer, LowestAnswer, fewest, lowest, fewest_first};
 ghost use Rattle.branching.specs.FewestLemmas.{wins, fewest_lawful};
 
 pub trait Order {
@@ -13,9 +13,9 @@ pub trait Order {
 
     ghost meaning: { OrderMeaning Held };
 
-    // The answer is a 16-bit number, which bounds the domains here and in `pick`.
+    // A job has at most 200 groups, and an order is asked about no more, here and in `pick`.
     fn group(&mut self, domains: &[u64]) -> Option<u16>
-        requires { length domains.now ≤ 65536 }
+        requires { length domains.now ≤ 200 }
         ensures answer { result ≡ meaning.group (held self.old) domains.now }
         ensures after { held self.new ≡ meaning.grouped (held self.old) domains.now };
 
@@ -30,7 +30,7 @@ pub trait Order {
 }
 
 pub fn pick<O: Order>(order: &mut O, domains: &[u64]) -> Option<(u16, u8)>
-    requires { length domains.now ≤ 65536 }
+    requires { length domains.now ≤ 200 }
     ensures answer { result ≡ choice O.meaning (O.held order.old) domains.now }
     ensures after { O.held order.new ≡ chosen O.meaning (O.held order.old) domains.now }
     ensures good { GoodChoice domains.now result }
@@ -60,7 +60,7 @@ impl Order for FewestFirst {
     ghost lawful = { fewest_lawful };
 
     fn group(&mut self, domains: &[u64]) -> Option<u16>
-        requires { length domains.now ≤ 65536 }
+        requires { length domains.now ≤ 200 }
         ensures answer { result ≡ fewest domains.now }
         ensures after { ◌≡◌ {A = Unit {0}} tt tt }
         ensures least { FewestAnswer domains.now result }
@@ -76,7 +76,11 @@ impl Order for FewestFirst {
         best.map(|(g, _)| g)
     }
 
-    fn channel(&mut self, domains: &[u64], group: u16) -> Option<u8> {
+    fn channel(&mut self, domains: &[u64], group: u16) -> Option<u8>
+        ensures answer { result ≡ lowest (slice_index domains.now group) }
+        ensures after { ◌≡◌ {A = Unit {0}} tt tt }
+        ensures least { LowestAnswer domains.now group result }
+    {
         let m = *domains.get(usize::from(group))?;
         if m == 0 {
             return None;
