@@ -133,7 +133,7 @@ fn vet(src: &[u8], items: &[Item]) -> Result<(), WriteFault>
 }
 
 // The bytes of a job: a record for each item, in their order, and an end. The rows of a table are
-// those at its offset in `src`. A load reads them back: `back` says so.
+// those at its offset in `src`. A load reads them back, where the items have no fault and there are places for them: `back` says so.
 pub fn write_job(heap: Global, src: &[u8], items: &[Item]) -> Result<Vec<u8>, WriteFault>
     ensures bytes { MatchResult result (λ v. Flawless src.now items.now × (v.items ≡ job src.now items.now)) (λ f. Unwritten src.now items.now f) }
     ensures back { RoundTrip }
