@@ -44,6 +44,11 @@ open_some q e =
     let t = unless_none (in_range q && book_agrees q) 9 (all_none (open_checks q) e).0 in
     leb-true 1 (length q.lists) (and_parts (leb 1 (length q.lists)) (leb (length q.lists) 200) (and_parts (in_range q) (book_agrees q) t).0).0
 
+pub open_few : (q : Request) → open_refusal q ≡ None → length q.lists ≤ 200
+open_few q e =
+    let t = unless_none (in_range q && book_agrees q) 9 (all_none (open_checks q) e).0 in
+    leb-true (length q.lists) 200 (and_parts (leb 1 (length q.lists)) (leb (length q.lists) 200) (and_parts (in_range q) (book_agrees q) t).0).1
+
 length_branch_of : (ws : List ℕ) (n : ℕ) → length (branch_of ws n) ≡ n
 length_branch_of ws zero = refl
 length_branch_of ws (suc n) = ap suc (length_branch_of ws n)

@@ -1,5 +1,5 @@
--- A sitting is a run of the theory's moves, and an open one has made just the moves allowed.
-use Rattle.std.proofs.Common.{◌≡◌, ℕ, suc, ◌+◌, ◌*◌, ◌<◌, ◌≢◌, List, ◌∷◌, length, get_or, Some, refl, ◌∙◌, subst, inl, inr, arith}
+-- A sitting is a chain of the moves of `model`, and an open one has made just the moves allowed.
+use Rattle.std.proofs.Common.{◌≡◌, ℕ, suc, ◌+◌, ◌*◌, ◌<◌, ◌≤◌, ◌≢◌, List, ◌∷◌, length, get_or, Some, refl, ◌∙◌, subst, inl, inr, arith}
 use Rattle.std.proofs.lemmas.Bool.{cases_eq}
 use Rattle.rules.specs.Channels.{Has}
 use Rattle.branching.specs.Channels.{Open}
@@ -11,7 +11,7 @@ use Rattle.model.specs.Remains.{Family, family, Single, Alive}
 use Rattle.model.specs.Moves.{State, deciding, Left, EndedNone, Move, close as may_close, restart as may_restart, decide as may_decide, Reach, here, more}
 use Rattle.laws.specs.Orders.{asked, Order, IsLawfulOrder, Policy, IsLawfulPolicy}
 use Rattle.laws.specs.Sittings.{Search, Verdict, none, plan, unsettled, Leaves, Turn, close, restart, decide, Sits, ends_none, ends_plan, spent, moves_on}
-use Rattle.laws.proofs.Masks.{Has-has}
+use Rattle.laws.proofs.Masks.{Has-has, leaves_domains}
 
 group_of : (g c : ℕ) → c < 64 → grp (64 * g + c) ≡ g
 group_of g c h = omega arith
@@ -24,14 +24,15 @@ another : (m c : ℕ) → (a : ℕ) × (b : ℕ) × (a < b) × Has m a × Has m 
 another m c (a, b, l, p, q) = elim (cases_eq a c) [ inl e ↦ (b, q, λ f. absurd (omega arith)) | inr e ↦ (a, p, e) ]
 
 module _ (lists : List ℕ) (book : Meaning) (order : Order) (policy : Policy) (room : ℕ) where
-  module _ (lawful : IsLawfulOrder order) (steady : IsLawfulPolicy policy) where
+  module _ (few : length lists ≤ 200) (lawful : IsLawfulOrder order) (steady : IsLawfulPolicy policy) where
     -- What the order answers may be decided.
     decides : (s : Search) (masks : List ℕ) → Leaves lists book s.state masks → Alive lists (family masks)
         → (g c : ℕ) → order.group s.events masks ≡ Some g → order.channel (asked masks ∷ s.events) masks g ≡ Some c
         → Move lists book room s.state (deciding (64 * g + c) s.state)
     decides s masks l alive g c eg ec =
-        let open-group : Open masks g = subst (Branches masks) eg (lawful.branches s.events masks) in
-        let channel : Has (get_or masks g 0) c = subst (Remains masks g) ec (lawful.remains (asked masks ∷ s.events) masks g) in
+        let domains = leaves_domains lists book s.state masks few l in
+        let open-group : Open masks g = subst (Branches masks) eg (lawful.branches s.events masks domains) in
+        let channel : Has (get_or masks g 0) c = subst (Remains masks g) ec (lawful.remains (asked masks ∷ s.events) masks g domains) in
         let m = get_or masks g 0 in
         let d = another m c (counts_two m m (below_pow m) open-group) in
         let kept = Has-has m c channel in

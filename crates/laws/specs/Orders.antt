@@ -1,6 +1,6 @@
 -- What an order and a restart policy answer in the course of one call, whatever they hold.
 use Rattle.std.specs.Prelude.{ℕ, zero, suc, ◌≤◌, List, [], ◌∷◌, Option}
-use Rattle.branching.specs.Order.{OrderMeaning, Branches, Remains}
+use Rattle.branching.specs.Order.{OrderMeaning, Branches, Remains, Domains}
 use Rattle.branching.specs.Policy.{PolicyMeaning}
 
 -- An order is asked for a group of what remains, asked for a channel of a group, and told the group of a closing.
@@ -14,10 +14,10 @@ pub record Order : Type 0 where
   pub group : List Event → List ℕ → Option ℕ
   pub channel : List Event → List ℕ → ℕ → Option ℕ
 
--- The group keeps two or more channels wherever any does, the channel remains, and each is absent where there is none.
+-- Of at most 200 domains, each a 64-bit word: the group keeps two or more channels wherever any does, the channel remains, and each is absent where there is none.
 pub record IsLawfulOrder (o : Order) : Type 0 where
-  pub branches : (es : List Event) (ms : List ℕ) → Branches ms (o.group es ms)
-  pub remains : (es : List Event) (ms : List ℕ) (g : ℕ) → Remains ms g (o.channel es ms g)
+  pub branches : (es : List Event) (ms : List ℕ) → Domains ms → Branches ms (o.group es ms)
+  pub remains : (es : List Event) (ms : List ℕ) (g : ℕ) → Domains ms → Remains ms g (o.channel es ms g)
 
 -- A policy by its cutoff after so many restarts of the call.
 pub record Policy : Type 0 where

@@ -18,7 +18,7 @@ pub record Request : Type 0 where
   pub allowance : ℕ
   -- the sizes of the regions that are only written, and the words of the two that are read
   pub domains_size : ℕ
-  pub bench_size : ℕ
+  pub marks_size : ℕ
   pub rule_places : ℕ
   pub group_places : ℕ
   pub plan_size : ℕ
@@ -70,7 +70,7 @@ module _ (q : Request) where
 
   abbrev pub work_fits : Bool
   work_fits =
-      (nat_le q.groups q.domains_size && nat_le 256 q.bench_size)
+      (nat_le q.groups q.domains_size && nat_le 256 q.marks_size)
       && ((nat_le (2 * q.book_rules) q.rule_places && nat_le q.groups q.group_places) && nat_le q.groups q.plan_size)
 
   -- What the branch words and the used base words must be.

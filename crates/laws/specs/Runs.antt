@@ -1,5 +1,5 @@
 -- Runs of calls on one search.
-use Rattle.std.specs.Prelude.{◌≡◌, ℕ, suc, List, [], ◌∷◌, length, take, Some, None}
+use Rattle.std.specs.Prelude.{◌≡◌, ℕ, List, [], ◌∷◌, length, take, Some, None}
 use Rattle.rules.specs.Meanings.{Meaning}
 use Rattle.model.specs.Words.{branch_of, recorded, base_of}
 use Rattle.model.specs.Moves.{State, start, restarting}
@@ -37,6 +37,14 @@ pub record WithBook (book : Meaning) (q : Request) : Type 0 where
   pub groups : q.book_groups ≡ book.groups
   pub rules : q.book_rules ≡ book.count
 
+-- A call on a search. A sitting has an order and a policy, by their answers in this call, the words of room in the base, and an allowance of moves; a refused call has the number and place that it answers.
+pub data Call : Type 0 where
+  opening : Call
+  sitting : (order : Order) (policy : Policy) (room allowance : ℕ) → Call
+  restart : Call
+  refused_sitting : (number place : ℕ) → Call
+  refused_restart : (number place : ℕ) → Call
+
 module _ (lists : List ℕ) (book : Meaning) where
   -- The calls made on a search since it was opened, with the verdict and the state they left. A refused call, whatever it was given besides the search, leaves both.
   pub data Run : Verdict → State → Type 0 where
@@ -57,10 +65,10 @@ module _ (lists : List ℕ) (book : Meaning) where
   history (sitting_refused run q f n p e) = history run
   history (restart_refused run q f n p e) = history run
 
-  -- How many calls it has.
-  abbrev pub calls : {v : Verdict} {s : State} → Run v s → ℕ
-  calls (opened q l b e) = 1
-  calls (sat run q f b e order lo policy lp sits) = suc (calls run)
-  calls (restarted run q f e) = suc (calls run)
-  calls (sitting_refused run q f n p e) = suc (calls run)
-  calls (restart_refused run q f n p e) = suc (calls run)
+  -- The calls of a run, newest first.
+  abbrev pub calls : {v : Verdict} {s : State} → Run v s → List Call
+  calls (opened q l b e) = opening ∷ []
+  calls (sat run q f b e order lo policy lp sits) = sitting order policy (length q.base) q.allowance ∷ calls run
+  calls (restarted run q f e) = restart ∷ calls run
+  calls (sitting_refused run q f n p e) = refused_sitting n p ∷ calls run
+  calls (restart_refused run q f n p e) = refused_restart n p ∷ calls run

@@ -1,15 +1,16 @@
 -- The theorems on runs of calls.
-use Rattle.std.specs.Prelude.{◌≡◌, ℕ, ◌+◌, ◌*◌, ◌<◌, true, ◌≢◌, ◌⊎◌, List, ◌∷◌, ◌++◌, length, Some, None, slice_index}
+use Rattle.std.specs.Prelude.{◌≡◌, ℕ, ◌+◌, ◌*◌, ◌<◌, ◌≤◌, true, ◌≢◌, ◌⊎◌, List, ◌∷◌, ◌++◌, length, Some, None, slice_index}
 use Rattle.std.specs.List.{AllByRecursion}
 use Rattle.rules.specs.Meanings.{Meaning, Lawful}
+use Rattle.rules.specs.Plans.{Plan}
 use Rattle.model.specs.Decisions.{Decision, Branch, Nogood}
 use Rattle.model.specs.Words.{recorded}
 use Rattle.model.specs.Moves.{State, restarting, Reach}
 use Rattle.laws.specs.Orders.{Order, IsLawfulOrder, Policy, IsLawfulPolicy}
-use Rattle.laws.specs.Sittings.{Search, begun, Verdict, unsettled, Leaves, Sits}
+use Rattle.laws.specs.Sittings.{Search, begun, Verdict, plan, unsettled, Leaves, Sits}
 use Rattle.laws.specs.Words.{branch?, whole_base, base?}
 use Rattle.laws.specs.Requests.{Request, Refusal, first_of, empty_from, is_branch_sound, is_base_sound, sitting_refusal, restart_refusal}
-use Rattle.laws.specs.Runs.{Run, Carried, Found, WithBook, standing}
+use Rattle.laws.specs.Runs.{Run, sitting, restart, refused_sitting, refused_restart, Carried, Found, WithBook, standing}
 use Rattle.laws.specs.Law.{Law, Continues}
 
 -- The same sitting comes to one verdict and one search.
@@ -17,17 +18,17 @@ abbrev pub SitsOnce : Type 0
 SitsOnce = (lists : List ℕ) (book : Meaning) (order : Order) (policy : Policy) (room n : ℕ) (s : Search) (v w : Verdict) (t u : Search)
     → Sits lists book order policy room n s v t → Sits lists book order policy room n s w u → (v ≡ w) × (t ≡ u)
 
--- And there is one: what remains always exists, and every sitting comes to a verdict.
+-- And there is one: what remains always exists, and every sitting on at most 200 groups comes to a verdict.
 abbrev pub RemainsExists : Type 0
 RemainsExists = (lists : List ℕ) (book : Meaning) → Lawful book → (s : State) → (masks : List ℕ) × Leaves lists book s masks
 
 abbrev pub SitsExists : Type 0
-SitsExists = (lists : List ℕ) (book : Meaning) → Lawful book → (order : Order) → IsLawfulOrder order → (policy : Policy) (room n : ℕ) (s : Search)
+SitsExists = (lists : List ℕ) (book : Meaning) → length lists ≤ 200 → Lawful book → (order : Order) → IsLawfulOrder order → (policy : Policy) (room n : ℕ) (s : Search)
     → (v : Verdict) × (t : Search) × Sits lists book order policy room n s v t
 
--- It is a run of the moves of the theory.
+-- On at most 200 groups it is a chain of the moves of `model`.
 abbrev pub SitsReaches : Type 0
-SitsReaches = (lists : List ℕ) (book : Meaning) (order : Order) (policy : Policy) (room : ℕ) → IsLawfulOrder order → IsLawfulPolicy policy
+SitsReaches = (lists : List ℕ) (book : Meaning) → length lists ≤ 200 → (order : Order) (policy : Policy) (room : ℕ) → IsLawfulOrder order → IsLawfulPolicy policy
     → (n : ℕ) (s : Search) (v : Verdict) (t : Search) → Sits lists book order policy room n s v t → Reach lists book room s.state t.state
 
 -- Where it ends open, it has made just the moves allowed.
@@ -35,26 +36,34 @@ abbrev pub OpenSpends : Type 0
 OpenSpends = (lists : List ℕ) (book : Meaning) (order : Order) (policy : Policy) (room n : ℕ) (s t : Search)
     → Sits lists book order policy room n s unsettled t → t.state.moves ≡ s.state.moves + n
 
+-- "plan" comes with a plan of the lists and the book: from any state, by any order and policy, whether a run came to it or not.
+abbrev pub PlansArePlans : Type 0
+PlansArePlans = (lists : List ℕ) (book : Meaning) → Lawful book → book.groups ≡ length lists
+    → (order : Order) (policy : Policy) (room n : ℕ) (s : Search) (x : List ℕ) (t : Search) → Sits lists book order policy room n s (plan x) t → Plan lists book x
+
 -- The law, whole.
 abbrev pub RunsLawful : Type 0
 RunsLawful = (lists : List ℕ) (book : Meaning) → Lawful book → (v : Verdict) (s : State) (run : Run lists book v s) → Law lists book run
 
--- An accepted sitting by an order and a policy carries every run on.
+-- An accepted sitting by an order and a policy carries every run on, by one call: the sitting by that order and policy, with the room and the allowance of its request.
 abbrev pub CarriesOn : Order → Policy → Type 0
 CarriesOn order policy = (lists : List ℕ) (book : Meaning) → Lawful book → (s : State) (q : Request) → Found lists q s → WithBook book q → sitting_refusal q ≡ None
-    → (v : Verdict) (t : Search) → Sits lists book order policy (length q.base) q.allowance (begun s) v t → Continues lists book s v t.state
+    → (v : Verdict) (t : Search) → Sits lists book order policy (length q.base) q.allowance (begun s) v t
+    → Continues lists book (sitting order policy (length q.base) q.allowance) s v t.state
 
 abbrev pub SittingContinues : Type 0
 SittingContinues = (order : Order) → IsLawfulOrder order → (policy : Policy) → IsLawfulPolicy policy → CarriesOn order policy
 
--- So do an accepted restart and a refused call.
+-- So do an accepted restart, and a sitting and a restart that are refused, each by its own call.
 abbrev pub RestartContinues : Type 0
 RestartContinues = (lists : List ℕ) (book : Meaning) → Lawful book → (s : State) (q : Request) → Found lists q s → restart_refusal q ≡ None
-    → Continues lists book s unsettled (restarting s)
+    → Continues lists book restart s unsettled (restarting s)
 
 abbrev pub RefusedContinues : Type 0
 RefusedContinues = (lists : List ℕ) (book : Meaning) → Lawful book → (s : State) (q : Request) → Carried (length lists) q s
-    → (number place : ℕ) → (sitting_refusal q ≡ Some (number, place)) ⊎ (restart_refusal q ≡ Some (number, place)) → Continues lists book s unsettled s
+    → (number place : ℕ)
+    → (sitting_refusal q ≡ Some (number, place) → Continues lists book (refused_sitting number place) s unsettled s)
+    × (restart_refusal q ≡ Some (number, place) → Continues lists book (refused_restart number place) s unsettled s)
 
 -- What an accepted call is given stands for a state, whether a run left it or not.
 abbrev pub AcceptedStands : Type 0
@@ -64,7 +73,7 @@ AcceptedStands = (q : Request) (closings restarts : ℕ) → (sitting_refusal q 
 abbrev pub AcceptedContinues : Order → Policy → Type 0
 AcceptedContinues order policy = (book : Meaning) → Lawful book → (q : Request) → WithBook book q → sitting_refusal q ≡ None → (closings restarts : ℕ)
     → (v : Verdict) (t : Search) → Sits q.lists book order policy (length q.base) q.allowance (begun (standing q closings restarts)) v t
-    → Continues q.lists book (standing q closings restarts) v t.state
+    → Continues q.lists book (sitting order policy (length q.base) q.allowance) (standing q closings restarts) v t.state
 
 -- The test of a branch passes just where it has listed assignments, none twice and none of a group taken before.
 abbrev pub BranchTested : Type 0

@@ -2,8 +2,8 @@
 #![tactic(auto)]
 
 ghost use Rattle.laws.specs.Orders.{IsLawfulOrder, behaviour, IsLawfulPolicy, cutoffs};
-ghost use Rattle.laws.specs.Statements.{SitsOnce, RemainsExists, SitsExists, SitsReaches, OpenSpends, RunsLawful, SittingContinues, RestartContinues, RefusedContinues, AcceptedStands, AcceptedContinues, BranchTested, BaseTested, FirstRefusal, LowestEmpty, Undisturbed};
-ghost use Rattle.laws.specs.Jobs.{Jobs, SixCalls};
+ghost use Rattle.laws.specs.Statements.{SitsOnce, RemainsExists, SitsExists, SitsReaches, OpenSpends, PlansArePlans, RunsLawful, SittingContinues, RestartContinues, RefusedContinues, AcceptedStands, AcceptedContinues, BranchTested, BaseTested, FirstRefusal, LowestEmpty, Undisturbed};
+ghost use Rattle.laws.specs.Jobs.{Jobs, SevenCalls};
 
 use branching::{Order, RestartPolicy};
 
@@ -22,7 +22,7 @@ pub fn a_sitting_has_one_end()
     ensures { SitsOnce }
 {}
 
-// It is a run of the theory's moves.
+// On at most 200 groups it is a chain of the moves of `model`.
 pub fn a_sitting_makes_moves()
     ensures { SitsReaches }
 {}
@@ -32,12 +32,17 @@ pub fn an_open_sitting_spends_its_allowance()
     ensures { OpenSpends }
 {}
 
+// "plan" comes with a plan, from any state, whether a run came to it or not.
+pub fn a_plan_needs_no_run()
+    ensures { PlansArePlans }
+{}
+
 // The law, whole, of every run of calls.
 pub fn runs_are_lawful()
     ensures { RunsLawful }
 {}
 
-// An accepted sitting carries every run on, by the law.
+// An accepted sitting carries every run on by this call, and the law holds of it.
 pub fn a_sitting_carries_on()
     ensures { SittingContinues }
 {}
@@ -82,7 +87,7 @@ pub fn what_remains_exists()
     ensures { RemainsExists }
 {}
 
-// Every sitting has an end.
+// Every sitting on at most 200 groups has an end.
 pub fn a_sitting_has_an_end()
     ensures { SitsExists }
 {}
@@ -92,7 +97,7 @@ pub fn jobs_are_worked()
     ensures { Jobs }
 {}
 
-// So does a refused call.
+// So do a refused sitting and a refused restart.
 pub fn a_refusal_carries_on()
     ensures { RefusedContinues }
 {}
@@ -103,6 +108,6 @@ pub fn accepted_requests_stand()
 {}
 
 // There is a run with calls of every kind, which comes to a plan.
-pub fn a_run_of_six_calls()
-    ensures { SixCalls }
+pub fn a_run_of_seven_calls()
+    ensures { SevenCalls }
 {}

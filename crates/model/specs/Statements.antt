@@ -1,4 +1,4 @@
--- The laws of runs, for every run from the start.
+-- The laws of runs, for every run from the start, and of states.
 use Rattle.std.specs.Prelude.{◌≡◌, ℕ, ◌+◌, ◌*◌, ◌<◌, ◌≤◌, true, ◌||◌, List, [], ◌∷◌, length}
 use Rattle.std.specs.List.{AllByRecursion}
 use Rattle.rules.specs.Meanings.{Meaning, Lawful}
@@ -9,7 +9,7 @@ use Rattle.model.specs.Choices.{shut, combinations}
 use Rattle.model.specs.Remains.{Family, Meets, Remains, Single}
 use Rattle.model.specs.Moves.{State, start, nogoods, Left, Reach, EndedNone}
 
--- What every statement is over: a book for the lists' groups, a room for the base, and a state that a run comes to.
+-- What a statement on runs is over: a book for the lists' groups, a room for the base, and a state that a run comes to.
 abbrev pub OnRuns : (List ℕ → Meaning → ℕ → State → Type 0) → Type 0
 OnRuns P = (lists : List ℕ) (book : Meaning) (room : ℕ) → Lawful book → book.groups ≡ length lists
     → (s : State) → Reach lists book room start s → P lists book room s
@@ -22,7 +22,7 @@ Formed = OnRuns (λ lists book room s. Branch lists s.branch × AllByRecursion (
 abbrev pub BranchBounded : Type 0
 BranchBounded = OnRuns (λ lists book room s. length s.branch ≤ 64 * length lists)
 
--- (a) Every complete choice that is shut out breaks a rule.
+-- Every complete choice that is shut out breaks a rule.
 abbrev pub Sound : Type 0
 Sound = OnRuns (λ lists book room s. (x : List ℕ) → Complete lists x → shut (nogoods s) x ≡ true → Breaks book x)
 
@@ -30,18 +30,20 @@ Sound = OnRuns (λ lists book room s. (x : List ℕ) → Complete lists x → sh
 abbrev pub NoneSound : Type 0
 NoneSound = OnRuns (λ lists book room s. EndedNone lists book s → (x : List ℕ) → Plan lists book x → ⊥)
 
--- Where every group keeps one channel, these are a plan.
+-- Where every group keeps one channel, these are a plan. It is so in any state, whether a run comes to it or not.
 abbrev pub PlanSound : Type 0
-PlanSound = OnRuns (λ lists book room s. (k : Family) → Left lists book s k → (x : List ℕ) → length x ≡ length lists → Single lists k x → Plan lists book x)
+PlanSound = (lists : List ℕ) (book : Meaning) → Lawful book → book.groups ≡ length lists
+    → (s : State) (k : Family) → Left lists book s k → (x : List ℕ) → length x ≡ length lists → Single lists k x → Plan lists book x
 
--- (b) What is shut out stays shut out.
+-- What is shut out stays shut out.
 abbrev pub StaysShut : Type 0
 StaysShut = OnRuns (λ lists book room s. (t : State) → Reach lists book room s t → (x : List ℕ) → shut (nogoods s) x ≡ true → shut (nogoods t) x ≡ true)
 
--- (c) Closings stay below the number of choices, and moves are bounded by closings.
+-- Closings stay below the number of choices.
 abbrev pub ClosingsBounded : Type 0
 ClosingsBounded = OnRuns (λ lists book room s. s.closings < combinations lists)
 
+-- Moves are bounded by closings.
 abbrev pub MovesBounded : Type 0
 MovesBounded = OnRuns (λ lists book room s. s.moves ≤ length lists + (length lists + 3) * s.closings)
 

@@ -31,7 +31,7 @@ pub fn none_means_no_plan()
     ensures { NoneSound }
 {}
 
-// Where every group keeps one channel, these are a plan.
+// Where every group keeps one channel, these are a plan, in any state.
 pub fn plan_is_a_plan()
     ensures { PlanSound }
 {}

@@ -1,4 +1,4 @@
--- The run of six calls.
+-- The run of seven calls.
 use Rattle.std.proofs.Common.{ℕ, List, [], ◌∷◌, replicate, refl, arith}
 use lib.Count.{ones, ones_in, count_trailing_zeros}
 use Rattle.branching.specs.Policy.{geometric}
@@ -9,8 +9,8 @@ use Rattle.model.specs.Moves.{State, start, closing, deciding, restarting}
 use Rattle.laws.specs.Orders.{Policy, IsLawfulPolicy, cutoffs}
 use Rattle.laws.specs.Sittings.{Search, begun, Verdict, unsettled, Sits}
 use Rattle.laws.specs.Requests.{Request}
-use Rattle.laws.specs.Runs.{Run, opened, sat, restarted, restart_refused}
-use Rattle.laws.specs.Jobs.{gap_rule, fewest, SixCalls}
+use Rattle.laws.specs.Runs.{Run, opened, sat, restarted, sitting_refused, restart_refused}
+use Rattle.laws.specs.Jobs.{gap_rule, fewest, SevenCalls}
 use Rattle.laws.proofs.Jobs.{fewest_behaves}
 use Rattle.laws.proofs.Total.{sits_exists}
 
@@ -42,7 +42,7 @@ call allowance branch_length base_used moves since branch base = record {
   since = since;
   allowance = allowance;
   domains_size = 3;
-  bench_size = 256;
+  marks_size = 256;
   rule_places = 6;
   group_places = 3;
   plan_size = 3;
@@ -51,7 +51,7 @@ call allowance branch_length base_used moves since branch base = record {
 }
 
 abbrev sitting_from : (n : ℕ) (s : State) → (v : Verdict) × (t : Search) × Sits lists book fewest policy 4 n (begun s) v t
-sitting_from n s = sits_exists lists book (gaps_lawful 3 three_rules) fewest fewest_behaves policy 4 n (begun s)
+sitting_from n s = sits_exists lists book (omega arith) (gaps_lawful 3 three_rules) fewest fewest_behaves policy 4 n (begun s)
 
 abbrev q1 : Request
 q1 = call 1 0 0 0 0 (replicate 192 0) (replicate 4 0)
@@ -90,12 +90,18 @@ q4 = call 100 0 2 3 0 (replicate 192 0) (1 ∷ 0 ∷ 0 ∷ 0 ∷ [])
 abbrev run5 : Run lists book unsettled (restarting s3)
 run5 = restart_refused run4 q4 (record { groups = refl; branch_length = refl; base_used = refl; moves = refl; since = refl }) 14 0 refl
 
-pub six_calls : SixCalls
+abbrev q5 : Request
+q5 = call 0 0 2 3 0 (replicate 192 0) (1 ∷ 0 ∷ 0 ∷ 0 ∷ [])
+
+abbrev run6 : Run lists book unsettled (restarting s3)
+run6 = sitting_refused run5 q5 (record { groups = refl; branch_length = refl; base_used = refl; moves = refl; since = refl }) 11 0 refl
+
+pub seven_calls : SevenCalls
 unfolding ones ones_in count_trailing_zeros
-six_calls =
+seven_calls =
     let r = sitting_from 100 (restarting s3) in (
       r.1.state,
-      sat run5 q4 (record { carried = record { groups = refl; branch_length = refl; base_used = refl; moves = refl; since = refl }; listed = refl; branch = refl; base = refl })
+      sat run6 q4 (record { carried = record { groups = refl; branch_length = refl; base_used = refl; moves = refl; since = refl }; listed = refl; branch = refl; base = refl })
           (record { groups = refl; rules = refl }) refl fewest fewest_behaves policy positive r.2,
       refl,
       refl,
