@@ -16,19 +16,19 @@ use Rattle.propagation.specs.declared.records.RuleEnd.{RuleEnd}
 use Rattle.propagation.specs.declared.records.Assignment.{Assignment}
 use Rattle.propagation.specs.Benches.{Beyond}
 use Rattle.laws.specs.Orders.{Order, Policy, Event, asked, channel_asked, told, held_after, behaviour, moved_on, cutoffs}
-use Rattle.laws.specs.Sittings.{Search, begun, Verdict, Leaves, Turn, close, restart, decide, Sits}
+use Rattle.laws.specs.Sittings.{Search, begun, Verdict, plan, unsettled, Leaves, Turn, close, restart, decide, Sits}
 use Rattle.laws.specs.Requests.{sitting_refusal}
 use Rattle.laws.specs.Runs.{Found}
 use Rattle.laws.proofs.Masks.{has-Has, Has-has}
 use Rattle.laws.proofs.Orders.{behaves, cuts_off}
 use Rattle.laws.proofs.Refusals.{sitting_stands}
-use Rattle.laws.proofs.Runs.{sitting_continues}
-use Rattle.laws.proofs.Sittings.{Onward, onward_more}
+use Rattle.laws.proofs.Runs.{sitting_continues, plans_are_plans}
+use Rattle.laws.proofs.Sittings.{open_spends, Onward, onward_more}
 use Rattle.search.specs.declared.held.Progress.{Progress}
 use Rattle.search.specs.declared.held.OpenSearch.{OpenSearch}
 use Rattle.search.specs.declared.held.SettledSearch.{SettledSearch}
 use Rattle.search.proofs.Turning.{length_branch_of}
-use Rattle.search.specs.Sittings.{Lent, request, ComesTo, Settles}
+use Rattle.search.specs.Sittings.{Lent, request, Tells, ComesTo, Settles, Planned, Stays}
 use Rattle.search.specs.Calls.{asking}
 use Rattle.search.specs.declared.regions.Regions.{Regions}
 use Rattle.search.specs.Counts.{Counted}
@@ -130,7 +130,7 @@ module _ {O P H Q : Type 0} (om : OrderMeaning H) (pm : PolicyMeaning Q) (oh : O
       → Beyond (length lists) book.count here.domains next.domains here.marks next.marks here.ends next.ends here.settled next.settled
       → KeptWords (length lists) p.base_used p'.base_used here.branch next.branch here.base next.base
       → next.plan ≡ here.plan → length next.base ≡ length here.base → Along (left - 1) p' next
-  along_more left p p' here next masks a m fit beyond kept plan long =
+  along_more left p p' here next masks a m fit beyond kept same_plan long =
       let s = state_of p here.branch here.base in
       let h = oh found.order in
       let q = ph found.policy in
@@ -156,7 +156,7 @@ module _ {O P H Q : Type 0} (om : OrderMeaning H) (pm : PolicyMeaning Q) (oh : O
         fit = fit;
         beyond = beyond_then a.beyond beyond;
         kept = kept_then (length lists) p₀.base_used p.base_used p'.base_used found.branch here.branch next.branch found.base here.base next.base a.kept kept;
-        plan = plan ∙ a.plan;
+        plan = same_plan ∙ a.plan;
         room = long ∙ a.room;
       }
 
@@ -214,17 +214,42 @@ module _ {O P H Q : Type 0} (om : OrderMeaning H) (law : LawfulMeaning om) (pm :
             (record { groups = refl; rules = refl }) accepted v end all;
       }
 
--- A search that came to an end tells the counts of its state.
+-- A search tells the counts of the state that it stands at.
+pub tells : (p : Progress) (branch base : List ℕ) (s : State) → state_of p branch base ≡ s → Tells p.counts s
+tells p branch base s e = record { moves = ap (λ (x : State). x.moves) e; closings = ap (λ (x : State). x.closings) e; restarts = ap (λ (x : State). x.restarts) e }
+
+-- What a sitting answers at each of its ends. An open one has made exactly the moves allowed, and "plan" comes with one.
 module _ {O P H Q : Type 0} (om : OrderMeaning H) (pm : PolicyMeaning Q) (oh : O → H) (ph : P → Q) (book : Meaning) (s : OpenSearch) (lists : List ℕ) (allowance : ℕ) (found left : Lent O P) where
+  abbrev found_order : Order
+  found_order = behaviour om (oh found.order)
+
+  abbrev found_policy : Policy
+  found_policy = cutoffs pm (ph found.policy)
+
+  abbrev first : Search
+  first = begun (state_of s.at found.branch found.base)
+
   pub settles : (v : Verdict) (d : SettledSearch) → ComesTo om pm oh ph book s lists allowance found left v d.at → Settles om pm oh ph book s lists allowance found left v d
-  settles v d r = (
-    r,
-    record {
-      moves = ap (λ (x : State). x.moves) r.state;
-      closings = ap (λ (x : State). x.closings) r.state;
-      restarts = ap (λ (x : State). x.restarts) r.state;
-    },
-  )
+  settles v d r = (r, tells d.at left.branch left.base r.end.state r.state)
+
+  pub planned : Lawful book → book.groups ≡ length lists → (d : SettledSearch) → ComesTo om pm oh ph book s lists allowance found left (plan (take (length lists) left.plan)) d.at
+      → drop (length lists) left.plan ≡ drop (length lists) found.plan → Planned om pm oh ph book s lists allowance found left d
+  planned lawful same d r behind = record {
+    settles = settles (plan (take (length lists) left.plan)) d r;
+    is_plan = plans_are_plans lists book lawful same found_order found_policy (length found.base) allowance first (take (length lists) left.plan) r.end r.sits;
+    behind = behind;
+  }
+
+  pub stays : (t : OpenSearch) (r : ComesTo om pm oh ph book s lists allowance found left unsettled t.at) → t.groups ≡ s.groups → Found lists (request t lists book allowance left) r.end.state
+      → left.plan ≡ found.plan → Stays om pm oh ph book s lists allowance found left t
+  stays t r groups next plan_kept = record {
+    comes = r;
+    groups = groups;
+    moves = ap (λ (x : State). x.moves) r.state ∙ open_spends lists book found_order found_policy (length found.base) allowance first r.end r.sits;
+    tells = tells t.at left.branch left.base r.end.state r.state;
+    next = next;
+    plan = plan_kept;
+  }
 
 -- The next call finds the open search as it is left.
 pub found_open : (groups : ℕ) (p : Progress) (lists : List ℕ) (book_groups rules allowance : ℕ) (z : Sizes) (branch base : List ℕ) (s : State) → groups ≡ length lists

@@ -91,10 +91,10 @@ module _ {H Q : Type 0} (lists : List ℕ) (book : Meaning) (om : OrderMeaning H
       }
 
   -- A turn keeps the branch and the base sound.
-  module _ (law : LawfulMeaning om) (plaw : LawfulPolicy pm) where
+  module _ (few : length lists ≤ 200) (law : LawfulMeaning om) (plaw : LawfulPolicy pm) where
     moved_whole : Moved lists book om pm room left masks h h' q q' s s' → Whole lists s → Whole lists s'
     moved_whole m w = subst (Whole lists) (sym m.state)
-        (whole_move lists book room s m.next.state (turn_move lists book (behaviour om h) (cutoffs pm q) room (behaves om law h) (cuts_off pm plaw q) (begun s) m.next m.turn) w)
+        (whole_move lists book room s m.next.state (turn_move lists book (behaviour om h) (cutoffs pm q) room few (behaves om law h) (cuts_off pm plaw q) (begun s) m.next m.turn) w)
 
     pub turned_whole : (r : Step) → Turned lists book om pm room left masks h h' q q' s s' r → Whole lists s → Whole lists s'
     turned_whole EndsNone t w = subst (Whole lists) (sym t.0.state) w

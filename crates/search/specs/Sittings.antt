@@ -1,6 +1,7 @@
 -- What an open and a sitting answer, and what each region then holds.
-use Rattle.std.specs.Prelude.{◌≡◌, ℕ, ◌⊎◌, List, length, take, drop, Some, None, Ok, Err, Result}
+use Rattle.std.specs.Prelude.{◌≡◌, ℕ, ◌+◌, ◌⊎◌, List, [], ◌∷◌, length, take, drop, Some, None, Ok, Err, Result}
 use Rattle.rules.specs.Meanings.{Meaning, Lawful}
+use Rattle.rules.specs.Plans.{Plan}
 use Rattle.rules.specs.Refusals.{told}
 use Rattle.rules.specs.declared.refusal.Refusal.{Refusal}
 use Rattle.branching.specs.Order.{OrderMeaning}
@@ -14,7 +15,7 @@ use Rattle.propagation.specs.Benches.{Beyond}
 use Rattle.laws.specs.Orders.{held_after, behaviour, moved_on, cutoffs}
 use Rattle.laws.specs.Sittings.{Search, begun, Verdict, none, plan, unsettled, Leaves, Sits}
 use Rattle.laws.specs.Requests.{Request, open_refusal, sitting_refusal}
-use Rattle.laws.specs.Runs.{Carried, Found, Run}
+use Rattle.laws.specs.Runs.{Carried, Found, opening as opening_call, sitting, refused_sitting, Run, history, calls}
 use Rattle.laws.specs.Law.{Law, Continues}
 use Rattle.search.specs.declared.held.Counts.{Counts}
 use Rattle.search.specs.declared.held.Progress.{Progress}
@@ -77,31 +78,35 @@ module _ {O P H Q : Type 0} (om : OrderMeaning H) (pm : PolicyMeaning Q) (order_
     -- what is untouched
     pub beyond : Beyond (length lists) book.count found.domains left.domains found.marks left.marks found.ends left.ends found.settled left.settled
     pub kept : KeptWords (length lists) s.at.base_used p.base_used found.branch left.branch found.base left.base
-    -- every run that came to what was passed goes on to what is left, and the law of runs holds of it
-    pub continues : Continues lists book (state_of s.at found.branch found.base) v end.state
+    -- every run that came to what was passed goes on by this sitting to what is left, and the law of runs holds of it
+    pub continues : Continues lists book (sitting (behaviour om (order_holds found.order)) (cutoffs pm (policy_holds found.policy)) (length found.base) allowance)
+        (state_of s.at found.branch found.base) v end.state
 
   -- A settled search stands at the numbers that it came to, and tells the counts.
   abbrev pub Settles : Verdict → SettledSearch → Type 0
   Settles v d = (r : ComesTo v d.at) × Tells d.at.counts r.end.state
 
-  -- The plan stands in the first bytes of its region.
-  abbrev pub Planned : SettledSearch → Type 0
-  Planned d = Settles (plan (take (length lists) left.plan)) d × (drop (length lists) left.plan ≡ drop (length lists) found.plan)
+  -- The first bytes of the plan region are a plan of the lists and the book, as `check` says it, whatever calls came before. The bytes behind them are untouched.
+  pub record Planned (d : SettledSearch) : Type 0 where
+    pub settles : Settles (plan (take (length lists) left.plan)) d
+    pub is_plan : Plan lists book (take (length lists) left.plan)
+    pub behind : drop (length lists) left.plan ≡ drop (length lists) found.plan
 
-  -- An open search is handed back, as the next call finds it.
+  -- An open search is handed back, as the next call finds it, after exactly the moves allowed.
   pub record Stays (t : OpenSearch) : Type 0 where
     pub comes : ComesTo unsettled t.at
     pub groups : t.groups ≡ s.groups
-    pub tells : (t.at.counts.closings ≡ comes.end.state.closings) × (t.at.counts.restarts ≡ comes.end.state.restarts)
+    pub moves : t.at.counts.moves ≡ s.at.counts.moves + allowance
+    pub tells : Tells t.at.counts comes.end.state
     pub next : Found lists (request t lists book allowance left) comes.end.state
     pub plan : left.plan ≡ found.plan
 
-  -- The sitting is refused: the first number of its checks with its place, the search handed back, and all as found. A run on any lists and book goes on with the search it had.
+  -- The sitting is refused: the first number of its checks with its place, the search handed back, and all as found. A run on any lists and book goes on by this refused sitting with the search it had.
   pub record Refused (e : Refusal × OpenSearch) : Type 0 where
     pub number : sitting_refusal (request s lists book allowance found) ≡ Some (told e.0)
     pub handed_back : e.1 ≡ s
     pub same : left ≡ found
-    pub continues : (own : List ℕ) (meant : Meaning) → Lawful meant → (t : State) → Carried (length own) (request s lists book allowance found) t → Continues own meant t unsettled t
+    pub continues : (own : List ℕ) (meant : Meaning) → Lawful meant → (t : State) → Carried (length own) (request s lists book allowance found) t → Continues own meant (refused_sitting (told e.0).0 (told e.0).1) t unsettled t
 
   abbrev pub Answers : Result Sat (Refusal × OpenSearch) → Type 0
   Answers (Ok (SatPlan d)) = Planned d
@@ -109,13 +114,13 @@ module _ {O P H Q : Type 0} (om : OrderMeaning H) (pm : PolicyMeaning Q) (order_
   Answers (Ok (SatOpen t)) = Stays t
   Answers (Err e) = Refused e
 
--- An open gives a search with nothing on its branch and in its base, where a run begins by the law of runs; or the first number of its checks.
+-- An open gives a search with nothing on its branch and in its base, where a run begins by this call alone, with the law of runs; or the first number of its checks.
 pub record Opened (book : Meaning) (lists : List ℕ) (t : OpenSearch) : Type 0 where
   pub accepted : open_refusal (opening lists book.groups book.count) ≡ None
   pub groups : t.groups ≡ length lists
   pub state : (branch base : List ℕ) → state_of t.at branch base ≡ start
   pub used : t.at.base_used ≡ 0
-  pub begins : (run : Run lists book unsettled start) × Law lists book run
+  pub begins : (run : Run lists book unsettled start) × (history lists book run ≡ start ∷ []) × (calls lists book run ≡ opening_call ∷ []) × Law lists book run
 
 abbrev pub Unopened : Meaning → List ℕ → Refusal → Type 0
 Unopened book lists e = open_refusal (opening lists book.groups book.count) ≡ Some (told e)

@@ -86,6 +86,20 @@ impl OpenSearch {
         self.at.counts
     }
 
+    // How many words of the branch are used.
+    pub fn branch_len(&self) -> u32
+        ensures { result ≡ self.now.at.branch_len }
+    {
+        self.at.branch_len
+    }
+
+    // How many words of the base are used.
+    pub fn base_used(&self) -> u32
+        ensures { result ≡ self.now.at.base_used }
+    {
+        self.at.base_used
+    }
+
     // Gives the search up. What was closed is lost with it, and nothing is said of a plan.
     pub fn leave(self) -> Counts
         ensures { result ≡ self.at.counts }
@@ -100,6 +114,7 @@ impl SettledSearch {
     pub fn counts(&self) -> Counts
         ensures { result ≡ self.now.at.counts }
     {
-        self.at.counts
+        let SettledSearch { at } = self;
+        at.counts
     }
 }

@@ -18,5 +18,5 @@ returns g c =
       groups = refl;
       state = λ branch base. search (rules, opened_state);
       used = search rules;
-      begins = (run, law lists book (g.B.RuleBook.lawful c.args.book.now) unsettled start run);
+      begins = (run, refl, refl, law lists book (g.B.RuleBook.lawful c.args.book.now) unsettled start run);
     }

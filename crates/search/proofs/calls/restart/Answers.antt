@@ -1,4 +1,4 @@
-use Rattle.std.proofs.Common.{◌≡◌, ℕ, ◌+◌, List, ◌++◌, length, take, drop, sym, refl, ap, ◌∙◌, inr, arith}
+use Rattle.std.proofs.Common.{◌≡◌, ℕ, ◌+◌, List, ◌++◌, length, take, drop, sym, refl, ap, ◌∙◌, arith}
 use Rattle.model.specs.Decisions.{reduced}
 use Rattle.model.specs.Words.{branch_of, recorded}
 use Rattle.model.specs.Moves.{nogoods, restarting}
@@ -9,7 +9,7 @@ use Rattle.search.proofs.States.{restarting_state, used_words_lem, past_words}
 use Rattle.search.proofs.Ready.{ready_restart}
 use Rattle.search.proofs.Along.{found_open}
 use Rattle.rules.specs.Refusals.{told}
-use Rattle.laws.proofs.Runs.{refused_continues, restart_continues}
+use Rattle.laws.proofs.Runs.{refused_restart_continues, restart_continues}
 use Rattle.search.specs.Restarts.{recall}
 use Rattle.search.proofs.calls.restart.Goals as goal
 
@@ -22,7 +22,7 @@ returns-in-Err g c =
       handed_back = refl;
       same_base = refl;
       same_policy = refl;
-      continues = λ own meant l t f. refused_continues own meant l t q f (told c.in-Err.refusal).0 (told c.in-Err.refusal).1 (inr e);
+      continues = λ own meant l t f. refused_restart_continues own meant l t q f (told c.in-Err.refusal).0 (told c.in-Err.refusal).1 e;
     }
 
 pub restart-requires : goal.restart-requires

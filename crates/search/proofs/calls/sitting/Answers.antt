@@ -1,17 +1,16 @@
 use Rattle.std.proofs.Common.{◌≡◌, ℕ, ◌^◌, ◌<◌, ◌≤◌, List, [], length, get_or, take, drop, sym, refl, ap, ◌∙◌, subst, inl, inr, rules, arith}
 use lib.Count.{count_trailing_zeros}
 use Rattle.std.proofs.lemmas.List.{length-take-le, get_or-take}
-use Rattle.model.specs.Moves.{State}
 use Rattle.laws.specs.Sittings.{Sits, none, plan, unsettled, ends_none, ends_plan, spent}
 use Rattle.laws.specs.Orders.{behaviour, cutoffs}
 use Rattle.search.specs.Turns.{state_of}
 use Rattle.rules.specs.Refusals.{told}
-use Rattle.laws.proofs.Runs.{refused_continues}
+use Rattle.laws.proofs.Runs.{refused_sitting_continues}
 use Rattle.search.specs.Sittings.{lent_in, request}
 use Rattle.search.specs.Regions.{sizes}
 use Rattle.search.proofs.Ready.{ready}
 use Rattle.search.proofs.Fronts.{small_base}
-use Rattle.search.proofs.Along.{at, along_more, comes, settles, found_open, held_bounds, same_then, single}
+use Rattle.search.proofs.Along.{at, along_more, comes, settles, planned, stays, found_open, held_bounds, same_then, single}
 use Rattle.search.proofs.Remembering.{remembers_none}
 use Rattle.search.proofs.calls.sitting.Goals as goal
 
@@ -127,14 +126,10 @@ returns-in-Spent-clause-answers g c =
     let r = comes g.O.Order.meaning g.met.O.Order.lawful g.P.RestartPolicy.meaning g.met.P.RestartPolicy.lawful g.O.Order.held g.P.RestartPolicy.held (g.B.RuleBook.meaning c.args.book.now) (g.B.RuleBook.lawful c.args.book.now)
     c.args.search lists c.args.allowance found c.in_default.ensures c.moves.left c.moves.at c.turn.new.at here next unsettled i
     t.0.state t.0.order t.0.policy stops t.3 e.fit e.beyond e.kept in
-    record {
-      comes = r;
-      groups = refl;
-      tells = (ap (λ (x : State). x.closings) r.state, ap (λ (x : State). x.restarts) r.state);
-      next = found_open c.args.search.groups c.turn.new.at lists book.groups book.count c.args.allowance (sizes c.turn.new.regions)
-          c.turn.new.regions.branch.now c.turn.new.regions.base.now r.end.state y.searched r.state r.words e.fit.base_in;
-      plan = e.plan ∙ i.plan;
-    }
+    stays g.O.Order.meaning g.P.RestartPolicy.meaning g.O.Order.held g.P.RestartPolicy.held book c.args.search lists c.args.allowance found next _ r refl
+    (found_open c.args.search.groups c.turn.new.at lists book.groups book.count c.args.allowance (sizes c.turn.new.regions)
+    c.turn.new.regions.branch.now c.turn.new.regions.base.now r.end.state y.searched r.state r.words e.fit.base_in)
+    (e.plan ∙ i.plan)
 
 pub write_plan-requires : goal.write_plan-requires
 write_plan-requires g c =
@@ -147,27 +142,29 @@ write_plan-requires g c =
 pub returns-in-Plan-clause-answers : goal.returns-in-Plan-clause-answers
 returns-in-Plan-clause-answers g c =
     let lists = c.args.lists.now in
+    let book = g.B.RuleBook.meaning c.args.book.now in
+    let lawful = g.B.RuleBook.lawful c.args.book.now in
     let e = c.in-Plan.ensures in
     let t = e.turned in
     let i = c.moves.invariant.0 in
     let found = lent_in c.args.regions.now c.args.order.now c.args.policy.now in
     let here = lent_in c.moves.regions c.moves.order c.moves.policy in
-    let y = ready (g.B.RuleBook.meaning c.args.book.now) c.args.search lists c.args.allowance found c.in_default.ensures in
+    let y = ready book c.args.search lists c.args.allowance found c.in_default.ensures in
     let ds = c.turn.new.regions.domains.now in
     let xs = c.write_plan.new.plan in
+    let x = take (length lists) xs in
     let masks = take (length lists) ds in
     let roomy : length lists ≤ length xs = omega (arith, y.plan, ap length e.plan, ap length i.plan, c.write_plan.auto.plan) in
     let w = c.write_plan.ensures in
     let cut = c.split_at.ensures.front in
     let size = c.split_at.ensures.front_len in
-    let one = single lists masks (take (length lists) xs) t.2 t.3 (λ k l. subst (λ (ms : List ℕ). get_or ms k 0 < 2 ^ 64) cut (w.fits k (omega (arith, size))))
-    (λ k l. get_or-take (length lists) xs k 64 l ∙ w.written k (omega (arith, size)) ∙ ap (λ (ms : List ℕ). count_trailing_zeros 64 (get_or ms k 0)) cut) in (
-      settles g.O.Order.meaning g.P.RestartPolicy.meaning g.O.Order.held g.P.RestartPolicy.held (g.B.RuleBook.meaning c.args.book.now) c.args.search lists c.args.allowance found _ (plan (take (length lists) xs)) _
-          (comes g.O.Order.meaning g.met.O.Order.lawful g.P.RestartPolicy.meaning g.met.P.RestartPolicy.lawful g.O.Order.held g.P.RestartPolicy.held (g.B.RuleBook.meaning c.args.book.now) (g.B.RuleBook.lawful c.args.book.now)
-          c.args.search lists c.args.allowance found c.in_default.ensures c.moves.left c.moves.at c.turn.new.at here _ (plan (take (length lists) xs)) i
-          t.0.state t.0.order t.0.policy (ends_plan masks t.1 (take (length lists) xs) (length-take-le (length lists) xs roomy) one) (inl t.1) e.fit e.beyond e.kept),
-      subst (λ (k : ℕ). drop k xs ≡ drop k c.turn.new.regions.plan.now) size w.beyond ∙ ap (drop (length lists)) (e.plan ∙ i.plan),
-    )
+    let one = single lists masks x t.2 t.3 (λ k l. subst (λ (ms : List ℕ). get_or ms k 0 < 2 ^ 64) cut (w.fits k (omega (arith, size))))
+    (λ k l. get_or-take (length lists) xs k 64 l ∙ w.written k (omega (arith, size)) ∙ ap (λ (ms : List ℕ). count_trailing_zeros 64 (get_or ms k 0)) cut) in
+    let r = comes g.O.Order.meaning g.met.O.Order.lawful g.P.RestartPolicy.meaning g.met.P.RestartPolicy.lawful g.O.Order.held g.P.RestartPolicy.held book lawful
+    c.args.search lists c.args.allowance found c.in_default.ensures c.moves.left c.moves.at c.turn.new.at here _ (plan x) i
+    t.0.state t.0.order t.0.policy (ends_plan masks t.1 x (length-take-le (length lists) xs roomy) one) (inl t.1) e.fit e.beyond e.kept in
+    planned g.O.Order.meaning g.P.RestartPolicy.meaning g.O.Order.held g.P.RestartPolicy.held book c.args.search lists c.args.allowance found _ lawful y.groups _ r
+    (subst (λ (k : ℕ). drop k xs ≡ drop k c.turn.new.regions.plan.now) size w.beyond ∙ ap (drop (length lists)) (e.plan ∙ i.plan))
 
 pub returns-in-Err : goal.returns-in-Err
 returns-in-Err g c =
@@ -179,7 +176,7 @@ returns-in-Err g c =
         number = e;
         handed_back = refl;
         same = refl;
-        continues = λ own meant l t f. refused_continues own meant l t q f (told c.in-Err.refusal).0 (told c.in-Err.refusal).1 (inl e);
+        continues = λ own meant l t f. refused_sitting_continues own meant l t q f (told c.in-Err.refusal).0 (told c.in-Err.refusal).1 e;
       };
       same = search rules;
     }

@@ -42,7 +42,7 @@ returns-in-Err g c =
     let long : length ns ≡ n = c.turn_dead.auto.domains ∙ front in
     let masks = take n (ns ++ drop n ds) in
     let t = turned_dead lists m om pm (length bs) c.args.left masks h h' q q s s' c.turn_dead.result (d.turn bs) (dead_masks lists m law s (c.in-Err.ensures.dead)) refl in
-    let w = turned_whole lists m om pm (length bs) c.args.left masks h h' q q s s' g.met.O.Order.lawful g.met.P.RestartPolicy.lawful c.turn_dead.result t (fit_whole lists p ws bs f) in
+    let w = turned_whole lists m om pm (length bs) c.args.left masks h h' q q s s' f.few g.met.O.Order.lawful g.met.P.RestartPolicy.lawful c.turn_dead.result t (fit_whole lists p ws bs f) in
     let used = d.used in
     let kept = c.turn_dead.auto.branch in
     record {
@@ -138,7 +138,7 @@ returns g c =
     let a = subst (λ ms. AliveTurn om pm (length bs) c.args.left ms h h' q q' s s' c.turn_alive.result) c.split_at.ensures.front d.turn in
     let kept = subst (λ k. KeptWords k p.base_used p'.base_used ws ws' bs bs') size d.kept in
     let t = turned_alive lists m om pm (length bs) c.args.left masks h h' q q' s s' c.turn_alive.result a leaves lives.alive in
-    let w = turned_whole lists m om pm (length bs) c.args.left masks h h' q q' s s' g.met.O.Order.lawful g.met.P.RestartPolicy.lawful c.turn_alive.result t (fit_whole lists p ws bs f) in
+    let w = turned_whole lists m om pm (length bs) c.args.left masks h h' q q' s s' f.few g.met.O.Order.lawful g.met.P.RestartPolicy.lawful c.turn_alive.result t (fit_whole lists p ws bs f) in
     record {
       same = record { domains = refl; marks = refl; ends = refl; settled = refl; domains_size = c.refresh-remains.auto.domains; marks_size = c.refresh-remains.auto.marks; ends_size = c.refresh-remains.auto.ends; settled_size = c.refresh-remains.auto.settled; branch = refl; plan = refl; base = refl; branch_size = c.turn_alive.auto.branch; plan_size = refl; base_size = c.turn_alive.auto.base };
       plan = refl;
