@@ -48,7 +48,7 @@ module _ (lists : List ℕ) (book : Meaning) where
 pub record Spacious (q : Request) : Type 0 where
   pub branch : 64 * q.groups ≤ length q.branch
   pub domains : q.groups ≤ q.domains_size
-  pub bench : 256 ≤ q.bench_size
+  pub bench : 256 ≤ q.marks_size
   pub rules : 2 * q.book_rules ≤ q.rule_places
   pub groups : q.groups ≤ q.group_places
   pub plan : q.groups ≤ q.plan_size
@@ -75,7 +75,7 @@ due lists book s run q f b z =
     let used : q.base_used ≤ length q.base = omega (arith, f.carried.base_used, ap length f.base, length-take q.base_used q.base) in
     let work : (branch_fits q && work_fits q) ≡ true =
     and_from (branch_fits q) (work_fits q) (le-leb _ _ z.branch)
-    (and_from _ _ (and_from (leb q.groups q.domains_size) (leb 256 q.bench_size) (le-leb _ _ z.domains) (le-leb _ _ z.bench))
+    (and_from _ _ (and_from (leb q.groups q.domains_size) (leb 256 q.marks_size) (le-leb _ _ z.domains) (le-leb _ _ z.bench))
     (and_from _ _ (and_from (leb (2 * q.book_rules) q.rule_places) (leb q.groups q.group_places) (le-leb _ _ z.rules) (le-leb _ _ z.groups)) (le-leb _ _ z.plan))) in
     let fits : (base_fits q && (branch_fits q && work_fits q)) ≡ leb (length q.base) 65536 =
     both_true (leb q.base_used (length q.base)) (leb (length q.base) 65536) (branch_fits q && work_fits q) (le-leb _ _ used) work in

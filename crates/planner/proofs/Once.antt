@@ -1,7 +1,9 @@
 -- The sittings of a call have one end, and a job one answer.
-use Rattle.std.proofs.Common.{◌≡◌, ℕ, ◌+◌, List, ◌++◌, length, replicate, sym, refl, ap, ◌∙◌, subst, vec_items, length-append, arith}
+use Rattle.std.proofs.Common.{◌≡◌, ℕ, ◌+◌, List, ◌++◌, length, replicate, Ok, Err, inl, inr, sym, refl, ap, ◌∙◌, subst, vec_items, length-append, arith}
 use Rattle.std.proofs.lemmas.List.{length-replicate}
 use Rattle.rules.specs.Meanings.{Meaning}
+use Rattle.rules.specs.Refusals.{told}
+use Rattle.rules.specs.declared.refusal.Refusal.{Refusal}
 use Rattle.branching.specs.Order.{OrderMeaning}
 use Rattle.branching.specs.Policy.{PolicyMeaning}
 use Rattle.model.specs.Words.{recorded}
@@ -16,7 +18,12 @@ use Rattle.jobs.specs.Books.{book_of}
 use Rattle.jobs.proofs.Decides.{first_is_one, end_stops}
 use Rattle.jobs.specs.Jobs.{places}
 use Rattle.planner.specs.Sittings.{Between, between, left_by, SitsFrom, Ran, none_left, settled, goes_on, RanOnce}
-use Rattle.planner.specs.Answers.{Written, Comes, told_by, AnsweredOnce}
+use Rattle.planner.specs.Answers.{Written, Comes, told_by, Answered, Unanswered, SaySame, AnsweredOnce}
+use Rattle.planner.specs.declared.answer.Answer.{Answer}
+use Rattle.planner.specs.declared.error.PlanError.TheVariants.{Refused, NoMemory}
+use Rattle.planner.specs.declared.solve.Settings.{Settings}
+use Rattle.planner.proofs.Accepting.{none≢some}
+use Rattle.planner.proofs.Openings.{one_some, apart, one_fault}
 
 module _ {H Q : Type 0} (om : OrderMeaning H) (pm : PolicyMeaning Q) where
   module _ (lists : List ℕ) (book : Meaning) (room allowance : ℕ) where
@@ -53,16 +60,38 @@ same_words xs ys ns ms l e (k, x) (j, y) =
     let same : k ≡ j = omega (arith, a, b, l, ap length words) in
     x ∙ (ap (λ (ws : List ℕ). ws ++ replicate k 0) words ∙ (ap (λ (i : ℕ). recorded ms ++ replicate i 0) same ∙ sym y))
 
-pub one_answer : {H Q : Type 0} (om : OrderMeaning H) (pm : PolicyMeaning Q) → AnsweredOnce om pm
-one_answer {H = H} {Q = Q} om pm bs settings h h1 h2 q q1 q2 a b x y =
-    let e : y.0 ≡ x.0 = first_is_one (Sound bs places) y.0 x.0 y.1.before (end_stops bs places y.0 y.1) x.1.before (end_stops bs places x.0 x.1) in
-    let lists = (after bs x.0).lists in
-    let book = book_of bs (after bs x.0) in
+two_answers : {H Q : Type 0} (om : OrderMeaning H) (pm : PolicyMeaning Q) (bs : List ℕ) (settings : Settings) (h h1 h2 : H) (q q1 q2 : Q) (a b : Answer)
+    → Answered om pm bs settings h h1 q q1 a → Answered om pm bs settings h h2 q q2 b → SaySame (Ok a) (Ok b)
+two_answers {H = H} {Q = Q} om pm bs settings h h1 h2 q q1 q2 a b x y =
+    let e : y.job ≡ x.job = first_is_one (Sound bs places) y.job x.job y.accepts.before (end_stops bs places y.job y.accepts) x.accepts.before (end_stops bs places x.job x.accepts) in
+    let lists = (after bs x.job).lists in
+    let book = book_of bs (after bs x.job) in
     let other : (r : Comes om pm book lists settings.base_words settings start h h2 q q2 (told_by b.verdict) b.counts) × Written (vec_items b.base) r.end.base =
-    subst (λ (i : ℕ). (r : Comes om pm (book_of bs (after bs i)) (after bs i).lists settings.base_words settings start h h2 q q2 (told_by b.verdict) b.counts) × Written (vec_items b.base) r.end.base) e (y.4, y.7) in
-    let one = ran_once om pm lists book settings.base_words settings.allowance settings.sittings (between start h q) _ _ _ _ x.4.ran other.0.ran in
-    let state : x.4.end ≡ other.0.end = ap (λ (z : Between H Q). z.state) one.1 in (
+    subst (λ (i : ℕ). (r : Comes om pm (book_of bs (after bs i)) (after bs i).lists settings.base_words settings start h h2 q q2 (told_by b.verdict) b.counts) × Written (vec_items b.base) r.end.base) e (y.came, y.written) in
+    let one = ran_once om pm lists book settings.base_words settings.allowance settings.sittings (between start h q) _ _ _ _ x.came.ran other.0.ran in
+    let state : x.came.end ≡ other.0.end = ap (λ (z : Between H Q). z.state) one.1 in (
       one.0,
-      same_counts a.counts b.counts x.4.end other.0.end state x.4.tells other.0.tells,
-      same_words (vec_items a.base) (vec_items b.base) x.4.end.base other.0.end.base (sym a.base.ok.0 ∙ (x.3 ∙ (sym y.3 ∙ b.base.ok.0))) (ap (λ (z : State). z.base) state) x.7 other.1,
+      same_counts a.counts b.counts x.came.end other.0.end state x.came.tells other.0.tells,
+      same_words (vec_items a.base) (vec_items b.base) x.came.end.base other.0.end.base (sym a.base.ok.0 ∙ (x.base ∙ (sym y.base ∙ b.base.ok.0))) (ap (λ (z : State). z.base) state) x.written other.1,
     )
+
+-- A refusal comes where no answer does.
+no_refusal : {H Q : Type 0} (om : OrderMeaning H) (pm : PolicyMeaning Q) (bs : List ℕ) (settings : Settings) (h h' : H) (q q' : Q) (a : Answer) (e : Refusal)
+    → Answered om pm bs settings h h' q q' a → Unanswered bs settings (Refused e) → ⊥
+no_refusal om pm bs settings h h' q q' a e x (inl u) = apart bs places x.job x.accepts u.0 u.1.0 u.1.1
+no_refusal om pm bs settings h h' q q' a e x (inr u) = none≢some _ _ x.within u.1
+
+two_refusals : (bs : List ℕ) (settings : Settings) (e f : Refusal) → Unanswered bs settings (Refused e) → Unanswered bs settings (Refused f) → told e ≡ told f
+two_refusals bs settings e f (inl u) (inl v) = u.2 ∙ (one_fault bs places u.0 v.0 u.1.0 v.1.0 u.1.1 v.1.1 ∙ sym v.2)
+two_refusals bs settings e f (inl u) (inr v) = absurd (apart bs places v.0.0 v.0.1 u.0 u.1.0 u.1.1)
+two_refusals bs settings e f (inr u) (inl v) = absurd (apart bs places u.0.0 u.0.1 v.0 v.1.0 v.1.1)
+two_refusals bs settings e f (inr u) (inr v) = one_some _ _ (sym u.1 ∙ v.1)
+
+pub one_answer : {H Q : Type 0} (om : OrderMeaning H) (pm : PolicyMeaning Q) → AnsweredOnce om pm
+one_answer om pm bs settings h h1 h2 q q1 q2 (Ok a) (Ok b) x y = two_answers om pm bs settings h h1 h2 q q1 q2 a b x y
+one_answer om pm bs settings h h1 h2 q q1 q2 (Ok a) (Err (Refused e)) x y = no_refusal om pm bs settings h h1 q q1 a e x y
+one_answer om pm bs settings h h1 h2 q q1 q2 (Ok a) (Err NoMemory) x y = tt
+one_answer om pm bs settings h h1 h2 q q1 q2 (Err (Refused e)) (Ok a) x y = no_refusal om pm bs settings h h2 q q2 a e y x
+one_answer om pm bs settings h h1 h2 q q1 q2 (Err (Refused e)) (Err (Refused f)) x y = two_refusals bs settings e f x y
+one_answer om pm bs settings h h1 h2 q q1 q2 (Err (Refused e)) (Err NoMemory) x y = tt
+one_answer om pm bs settings h h1 h2 q q1 q2 (Err NoMemory) s x y = tt

@@ -1,5 +1,5 @@
 -- From what a search left to its report.
-use Rattle.std.proofs.Common.{◌≡◌, ℕ, ◌*◌, ◌<◌, ◌≤◌, List, ◌++◌, length, take, replicate, Ok, Err, Result, MatchResult, IfOk, IsOkUnless, refl, sym, ap, ◌∙◌, subst, vec_items, vec_len, arith}
+use Rattle.std.proofs.Common.{◌≡◌, ℕ, ◌*◌, ◌<◌, ◌≤◌, List, ◌++◌, length, take, replicate, Ok, Err, Result, MatchResult, IfOk, IfErr, IsOkUnless, inr, refl, sym, ap, ◌∙◌, subst, vec_items, vec_len, arith}
 use Rattle.std.proofs.lemmas.List.{length-append}
 use Rattle.std.proofs.Math.Seq.{take-append_seam}
 use Rattle.branching.specs.Order.{OrderMeaning}
@@ -24,9 +24,9 @@ use Rattle.planner.specs.declared.memory.Memory.{Memory}
 use Rattle.planner.specs.declared.report.Report.{Report}
 use Rattle.planner.specs.declared.solve.Settings.{Settings}
 use Rattle.jobs.specs.Jobs.{places}
-use Rattle.planner.specs.Answers.{Accepted, Searched, Unanswered, RefusedAsLoaded, reached}
-use Rattle.planner.specs.Reports.{Tells, Reported}
-use Rattle.planner.proofs.Openings.{answered, no_answer}
+use Rattle.planner.specs.Answers.{Searched, Unanswered, RefusedAsDue, reached}
+use Rattle.planner.specs.Reports.{Tells, Reported, Unreported}
+use Rattle.planner.proofs.Openings.{answered, as_due}
 
 module _ {H Q : Type 0} (om : OrderMeaning H) (pm : PolicyMeaning Q) (bs : List ℕ) (settings : Settings) (h h' : H) (q q' : Q) where
   module _ (m : Memory) (t : Sat) (x : Searched om pm bs settings h h' q q' m t) where
@@ -76,5 +76,11 @@ module _ {H Q : Type 0} (om : OrderMeaning H) (pm : PolicyMeaning Q) (bs : List 
     told_of (Ok r) k e = reported r k
     told_of (Err f) k e = subst (λ (y : PlanError). Unanswered bs settings y) (sym e) tt
 
-  pub reported_as_loaded : (r : Result Report PlanError) → MatchResult r (Reported om pm bs settings h h' q q') (Unanswered bs settings) → Accepted settings → RefusedAsLoaded bs r
-  reported_as_loaded r x z = no_answer bs settings (Reported om pm bs settings h h' q q') r x z (λ a y. (y.0.0, y.0.1))
+  pub reports_as_due : (r : Result Report PlanError) → MatchResult r (Reported om pm bs settings h h' q q') (Unanswered bs settings) → RefusedAsDue bs settings r
+  reports_as_due r x = as_due bs settings (Reported om pm bs settings h h' q q') r x (λ a y. ((y.0.job, y.0.accepts), y.0.within))
+
+-- Memory that is wanting for the report alone is wanting after the search.
+pub unreported : {O P H Q : Type 0} (om : OrderMeaning H) (pm : PolicyMeaning Q) (oh : O → H) (ph : P → Q) (bs : List ℕ) (settings : Settings) (o o' : O) (p p' : P) (m : Memory) (t : Sat) (r : Result Report PlanError)
+    → Searched om pm bs settings (oh o) (oh o') (ph p) (ph p') m t → IsOkUnless r NoMemory → IfErr r (Unreported om pm oh ph bs settings o o' p p')
+unreported om pm oh ph bs settings o o' p p' m t (Ok r) x e = tt
+unreported om pm oh ph bs settings o o' p p' m t (Err f) x e = subst (λ (y : PlanError). Unreported om pm oh ph bs settings o o' p p' y) (sym e) (inr (m, t, x))

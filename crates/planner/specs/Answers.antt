@@ -1,5 +1,5 @@
 -- What an answer has to do with its job.
-use Rattle.std.specs.Prelude.{◌≡◌, ℕ, ◌*◌, ◌≤◌, false, ◌&&◌, ◌⊎◌, List, [], ◌∷◌, ◌++◌, nat_le, length, take, replicate, Some, None as Nothing, Ok, Err, Result, vec_items, vec_len}
+use Rattle.std.specs.Prelude.{◌≡◌, ℕ, ◌*◌, false, ◌&&◌, ◌⊎◌, List, [], ◌∷◌, ◌++◌, nat_le, length, take, replicate, Some, None as Nothing, Ok, Err, Result, MatchResult, vec_items, vec_len}
 use Rattle.jobs.specs.declared.fault.LoadFault.{LoadFault}
 use Rattle.jobs.specs.Jobs.{after, Accepts}
 use Rattle.jobs.specs.Books.{book_of}
@@ -22,7 +22,7 @@ use Rattle.model.specs.Words.{base_of, recorded}
 use Rattle.model.specs.Moves.{State, start}
 use Rattle.laws.specs.Sittings.{Verdict as Reached, none, plan, unsettled}
 use Rattle.laws.specs.Requests.{Request, Refusal as Due, unless, first_of}
-use Rattle.laws.specs.Runs.{Run, Found}
+use Rattle.laws.specs.Runs.{Run, opening, calls, Found}
 use Rattle.laws.specs.Law.{Law}
 use Rattle.search.specs.declared.held.Counts.{Counts}
 use Rattle.search.specs.declared.held.OpenSearch.{OpenSearch}
@@ -32,7 +32,7 @@ use Rattle.search.specs.Ends.{counted, came_to}
 use Rattle.search.specs.Turns.{state_of}
 use Rattle.search.specs.Calls.{asking}
 use Rattle.search.specs.Sittings.{Lent, lent, Tells}
-use Rattle.planner.specs.Sittings.{between, Ran}
+use Rattle.planner.specs.Sittings.{between, Ran, sittings}
 use Rattle.jobs.specs.Jobs.{places}
 use Rattle.planner.specs.Stores.{Faulty, Unstored}
 
@@ -104,20 +104,9 @@ abbrev pub over_limits : ℕ → ℕ → ℕ → Due
 over_limits base allowance moves =
     first_of (unless (nat_le base 65536) 10 ∷ unless (nat_le 1 allowance && nat_le allowance 1000000) 11 ∷ unless (nat_le moves 100000000) 12 ∷ [])
 
--- Which refusal settings are due, if any.
+-- Which refusal settings are due, if any. A search that was just opened has made no moves.
 abbrev pub refusal_of : Settings → Due
 refusal_of s = over_limits s.base_words s.allowance (s.sittings * s.allowance)
-
--- Settings that are due none.
-pub record Accepted (s : Settings) : Type 0 where
-  pub base : s.base_words ≤ 65536
-  pub some : 1 ≤ s.allowance
-  pub most : s.allowance ≤ 1000000
-  pub moves : s.sittings * s.allowance ≤ 100000000
-
--- An error is the refusal that is due.
-abbrev pub RefusedFor : Due → PlanError → Type 0
-RefusedFor due e = (r : Refusal) × (e ≡ Refused r) × (due ≡ Some (told r))
 
 -- A sitting as it is checked, in these regions.
 abbrev pub asked : Meaning → List ℕ → ℕ → OpenSearch → Memory → Request
@@ -141,49 +130,72 @@ module _ {H Q : Type 0} (om : OrderMeaning H) (pm : PolicyMeaning Q) where
     pub ran : Ran om pm lists book room settings.allowance settings.sittings (between from h q) v (between end h' q')
     pub tells : Tells c end
 
-  -- What the sittings on a search come to, from the regions as they were found to the regions as they are left. Every run that came to what was found goes on to it, and the law
-  -- of runs holds of it; and where the base had nothing but recorded nogoods, it has those of the end, in its used words.
+  -- What the sittings on a search come to, from the regions as they were found to the regions as they are left. Every run that came to what was found goes on to it by just these
+  -- sittings, and the law of runs holds of it; and where the base had nothing but recorded nogoods, it has those of the end, in its used words.
   abbrev pub SatOn : Meaning → List ℕ → Settings → OpenSearch → Memory → Memory → H → H → Q → Q → Sat → Type 0
   SatOn book lists settings s m m' h h' q q' t =
       (r : Comes book lists (vec_len m.base) settings (state_of s.at (vec_items m.branch) (vec_items m.base)) h h' q q' (reached (take (length lists) (vec_items m'.plan)) t) (counted t))
       × StandsFor m' r.end t
-      × (Stands book lists s (vec_items m.branch) (vec_items m.base) → (run : Run lists book (reached (take (length lists) (vec_items m'.plan)) t) r.end) × Law lists book run)
+      × ((run : Stands book lists s (vec_items m.branch) (vec_items m.base)) → (next : Run lists book (reached (take (length lists) (vec_items m'.plan)) t) r.end)
+      × (calls lists book next ≡ sittings om pm lists book (vec_len m.base) settings.allowance r.ran ++ calls lists book run) × Law lists book next)
       × (Clear s m → Written (vec_items m'.base) r.end.base × ((came_to t).base_used ≡ length (recorded r.end.base)))
 
-  -- What the sittings on a job without a fault leave in the regions that are made for it: the settings' sittings on its lists and book came to the state that the words of the branch
-  -- and the base stand for. They are a run of calls, and the law of runs holds of it.
+  -- What the sittings on a job without a fault, by settings that are due no refusal, leave in the regions that are made for it: the settings' sittings on its lists and book came to
+  -- the state that the words of the branch and the base stand for. An opening and these sittings are a run of calls, and the law of runs holds of it.
   pub record Searched (bs : List ℕ) (settings : Settings) (h h' : H) (q q' : Q) (m : Memory) (t : Sat) : Type 0 where
     pub job : ℕ
     pub accepts : Accepts bs places job
+    pub within : refusal_of settings ≡ Nothing
     pub plan : vec_len m.plan ≡ length (after bs job).lists
     pub branch : vec_len m.branch ≡ 64 * length (after bs job).lists
     pub base : vec_len m.base ≡ settings.base_words
     pub came : Comes (book_of bs (after bs job)) (after bs job).lists settings.base_words settings start h h' q q' (reached (vec_items m.plan) t) (counted t)
     pub run : Run (after bs job).lists (book_of bs (after bs job)) (reached (vec_items m.plan) t) came.end
+    pub called : calls (after bs job).lists (book_of bs (after bs job)) run ≡ sittings om pm (after bs job).lists (book_of bs (after bs job)) settings.base_words settings.allowance came.ran ++ opening ∷ []
     pub law : Law (after bs job).lists (book_of bs (after bs job)) run
     pub written : Written (vec_items m.base) came.end.base
     pub stands : StandsFor m came.end t
     pub used : (came_to t).base_used ≡ length (recorded came.end.base)
 
-  -- An answer comes only to a job without a fault. It has the verdict and the counts of the very sittings that the settings ask for, on the job's lists and book. They are a run of
-  -- calls, and the law of runs holds of it: so there is no plan where the verdict is "none", and the channels are a plan where it is one. A plan has one channel for each group.
-  -- The base has the nogoods that were recorded.
-  abbrev pub Answered : List ℕ → Settings → H → H → Q → Q → Answer → Type 0
-  Answered bs settings h h' q q' a = (i : ℕ) × Accepts bs places i × Shaped (length (after bs i).lists) a.verdict × (vec_len a.base ≡ settings.base_words)
-      × (r : Comes (book_of bs (after bs i)) (after bs i).lists settings.base_words settings start h h' q q' (told_by a.verdict) a.counts)
-      × (run : Run (after bs i).lists (book_of bs (after bs i)) (told_by a.verdict) r.end) × Law (after bs i).lists (book_of bs (after bs i)) run
-      × Written (vec_items a.base) r.end.base
+  -- An answer comes only to a job without a fault, by settings that are due no refusal. It has the verdict and the counts of the very sittings that the settings ask for, on the job's
+  -- lists and book. An opening and these sittings are a run of calls, and the law of runs holds of it: so there is no plan where the verdict is "none", and the channels are a plan
+  -- where it is one. A plan has one channel for each group. The base has the nogoods that were recorded.
+  pub record Answered (bs : List ℕ) (settings : Settings) (h h' : H) (q q' : Q) (a : Answer) : Type 0 where
+    pub job : ℕ
+    pub accepts : Accepts bs places job
+    pub within : refusal_of settings ≡ Nothing
+    pub shaped : Shaped (length (after bs job).lists) a.verdict
+    pub base : vec_len a.base ≡ settings.base_words
+    pub came : Comes (book_of bs (after bs job)) (after bs job).lists settings.base_words settings start h h' q q' (told_by a.verdict) a.counts
+    pub run : Run (after bs job).lists (book_of bs (after bs job)) (told_by a.verdict) came.end
+    pub called : calls (after bs job).lists (book_of bs (after bs job)) run ≡ sittings om pm (after bs job).lists (book_of bs (after bs job)) settings.base_words settings.allowance came.ran ++ opening ∷ []
+    pub law : Law (after bs job).lists (book_of bs (after bs job)) run
+    pub written : Written (vec_items a.base) came.end.base
 
 -- A refusal is that of the job's first fault; or the one that the settings are due, where the job has no fault. Memory may be wanting at any job.
 abbrev pub Unanswered : List ℕ → Settings → PlanError → Type 0
 Unanswered bs settings (Refused r) = Unstored bs (Refused r) ⊎ (((i : ℕ) × Accepts bs places i) × (refusal_of settings ≡ Some (told r)))
 Unanswered bs settings NoMemory = Unit {0}
 
--- A job with a fault is refused for the first, and one without is answered, unless memory is wanting.
 module _ {A : Type 0} where
+  -- It is refused with this number and place, unless memory is wanting.
+  abbrev pub IsRefused : Result A PlanError → ℕ × ℕ → Type 0
+  IsRefused r due = (r ≡ Err NoMemory) ⊎ ((e : Refusal) × (r ≡ Err (Refused e)) × (told e ≡ due))
+
+  -- It is answered, unless memory is wanting.
+  abbrev pub IsAnswered : Result A PlanError → Type 0
+  IsAnswered r = (r ≡ Err NoMemory) ⊎ ((a : A) × (r ≡ Ok a))
+
+  -- A job with a fault is refused for the first, and one without is answered.
   pub record RefusedAsLoaded (bs : List ℕ) (r : Result A PlanError) : Type 0 where
-    pub faulty : (f : LoadFault) → Faulty bs places f → (r ≡ Err NoMemory) ⊎ ((e : Refusal) × (r ≡ Err (Refused e)) × (told e ≡ (numbered f.fault, f.offset)))
-    pub faultless : (i : ℕ) → Accepts bs places i → (r ≡ Err NoMemory) ⊎ ((a : A) × (r ≡ Ok a))
+    pub faulty : (f : LoadFault) → Faulty bs places f → IsRefused r (numbered f.fault, f.offset)
+    pub faultless : (i : ℕ) → Accepts bs places i → IsAnswered r
+
+  -- A job with a fault is refused for the first, whatever the settings are. One without is refused for what the settings are due, and answered where they are due nothing.
+  pub record RefusedAsDue (bs : List ℕ) (settings : Settings) (r : Result A PlanError) : Type 0 where
+    pub faulty : (f : LoadFault) → Faulty bs places f → IsRefused r (numbered f.fault, f.offset)
+    pub over : (i : ℕ) → Accepts bs places i → (due : ℕ × ℕ) → refusal_of settings ≡ Some due → IsRefused r due
+    pub accepted : (i : ℕ) → Accepts bs places i → refusal_of settings ≡ Nothing → IsAnswered r
 
 -- What the program searches with: last conflict of one group over fewest first, holding nothing, and geometric cutoffs from 10 on.
 abbrev pub program : Settings
@@ -195,7 +207,17 @@ program_order = record { limit = 1; kept = []; candidate = Nothing; below = tt }
 abbrev pub AnsweredByProgram : List ℕ → Answer → Type 0
 AnsweredByProgram bs a = (h : Layer (Unit {0})) × (q : ℕ) × Answered (last_conflict fewest_first) geometric bs program program_order h 10 q a
 
--- Two answers to one job by the same settings, order and policy say the same.
+-- Two replies say the same: an answer by its verdict, its counts and its base, a refusal by its number and place. Want of memory says nothing.
+abbrev pub SaySame : Result Answer PlanError → Result Answer PlanError → Type 0
+SaySame (Ok a) (Ok b) = (told_by a.verdict ≡ told_by b.verdict) × (a.counts ≡ b.counts) × (vec_items a.base ≡ vec_items b.base)
+SaySame (Ok a) (Err (Refused e)) = ⊥
+SaySame (Ok a) (Err NoMemory) = Unit {0}
+SaySame (Err (Refused e)) (Ok a) = ⊥
+SaySame (Err (Refused e)) (Err (Refused f)) = told e ≡ told f
+SaySame (Err (Refused e)) (Err NoMemory) = Unit {0}
+SaySame (Err NoMemory) r = Unit {0}
+
+-- Two replies to one job by the same settings, order and policy say the same.
 abbrev pub AnsweredOnce : {H Q : Type 0} → OrderMeaning H → PolicyMeaning Q → Type 0
-AnsweredOnce {H = H} {Q = Q} om pm = (bs : List ℕ) (settings : Settings) (h h1 h2 : H) (q q1 q2 : Q) (a b : Answer)
-    → Answered om pm bs settings h h1 q q1 a → Answered om pm bs settings h h2 q q2 b → (told_by a.verdict ≡ told_by b.verdict) × (a.counts ≡ b.counts) × (vec_items a.base ≡ vec_items b.base)
+AnsweredOnce {H = H} {Q = Q} om pm = (bs : List ℕ) (settings : Settings) (h h1 h2 : H) (q q1 q2 : Q) (r s : Result Answer PlanError)
+    → MatchResult r (Answered om pm bs settings h h1 q q1) (Unanswered bs settings) → MatchResult s (Answered om pm bs settings h h2 q q2) (Unanswered bs settings) → SaySame r s

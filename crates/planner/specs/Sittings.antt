@@ -1,11 +1,12 @@
 -- The sittings of one call, one after another.
-use Rattle.std.specs.Prelude.{◌≡◌, ℕ, zero, suc, ◌+◌, ◌≤◌, ◌≢◌, List}
+use Rattle.std.specs.Prelude.{◌≡◌, ℕ, zero, suc, ◌+◌, ◌≤◌, ◌≢◌, List, [], ◌∷◌, ◌++◌}
 use Rattle.rules.specs.Meanings.{Meaning}
 use Rattle.branching.specs.Order.{OrderMeaning}
 use Rattle.branching.specs.Policy.{PolicyMeaning}
 use Rattle.model.specs.Moves.{State}
 use Rattle.laws.specs.Orders.{held_after, behaviour, moved_on, cutoffs}
 use Rattle.laws.specs.Sittings.{Search, begun, Verdict, unsettled, Sits}
+use Rattle.laws.specs.Runs.{Call, sitting}
 
 -- A search between two sittings, with what the order and the policy hold.
 pub record Between (H Q : Type 0) : Type 0 where
@@ -38,6 +39,16 @@ module _ {H Q : Type 0} (om : OrderMeaning H) (pm : PolicyMeaning Q) where
       none_left : {b : Between H Q} → Ran zero b unsettled b
       settled : {n : ℕ} {b : Between H Q} {v : Verdict} {t : Search} → SitsFrom b v t → v ≢ unsettled → Ran (suc n) b v (left_by b t)
       goes_on : {n : ℕ} {b c : Between H Q} {v : Verdict} {t : Search} → SitsFrom b unsettled t → Ran n (left_by b t) v c → Ran (suc n) b v c
+
+    -- A sitting from b, as a call on the search.
+    abbrev pub call_from : Between H Q → Call
+    call_from b = sitting (behaviour om b.order) (cutoffs pm b.policy) room allowance
+
+    -- These sittings, as calls on the search, newest first.
+    abbrev pub sittings : {n : ℕ} {b : Between H Q} {v : Verdict} {c : Between H Q} → Ran n b v c → List Call
+    sittings none_left = []
+    sittings (settled {b = b} s closed) = call_from b ∷ []
+    sittings (goes_on {b = b} s rest) = sittings rest ++ call_from b ∷ []
 
 -- The same sittings come to one verdict and one end.
 abbrev pub RanOnce : {H Q : Type 0} → OrderMeaning H → PolicyMeaning Q → Type 0

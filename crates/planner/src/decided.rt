@@ -9,7 +9,7 @@ pub fn sittings_have_one_end<O: Order, P: RestartPolicy>()
     ensures { RanOnce O.Order.meaning P.RestartPolicy.meaning }
 {}
 
-// So the bytes of a job decide what is answered to it.
+// So two replies to one job, by the same settings, order and policy, say the same, unless memory is wanting.
 pub fn a_job_decides_its_answer<O: Order, P: RestartPolicy>()
     ensures { AnsweredOnce O.Order.meaning P.RestartPolicy.meaning }
 {}

@@ -13,7 +13,7 @@ use std::fmt;
 
 #[derive(Clone, Copy)]
 pub enum PlanError {
-    // The job is refused; or a call on it, with settings that the calls do not accept.
+    // The job is refused for its first fault; or, where it has none, the settings are.
     Refused(Refusal),
     // There is no memory for the regions or the answer.
     NoMemory,

@@ -1,12 +1,12 @@
 // The report of a search: its account, what it closed and its decisions in hand, as text.
-ghost use Rattle.std.specs.Prelude.{◌≡◌, ◌*◌, ◌≤◌, ◌++◌, length, vec_len, vec_items, Some, IfOk, IsOkUnless, MatchResult};
+ghost use Rattle.std.specs.Prelude.{◌≡◌, ◌*◌, ◌≤◌, ◌++◌, length, vec_len, vec_items, Some, IfOk, IfErr, IsOkUnless, MatchResult};
 ghost use Rattle.model.specs.Decisions.{reduced};
 ghost use Rattle.std.specs.List.{flat_map};
 ghost use Rattle.model.specs.Words.{decision, base_of, branch_of, recorded};
 ghost use Rattle.search.specs.Ends.{came_to};
 ghost use Rattle.planner.specs.declared.error.PlanError.TheVariants.{NoMemory};
-ghost use Rattle.planner.specs.Answers.{Accepted, Unanswered, RefusedAsLoaded};
-ghost use Rattle.planner.specs.Reports.{Tells, Reported};
+ghost use Rattle.planner.specs.Answers.{Unanswered, RefusedAsDue};
+ghost use Rattle.planner.specs.Reports.{Tells, Reported, Unreported};
 ghost use Rattle.planner.specs.Accounts.{assigned_text, listed_text, closed_text, decided_text, none_text};
 
 use crate::answer::{Answer, Verdict};
@@ -64,7 +64,7 @@ fn told(heap: Global, mut memory: Memory, sat: Sat) -> Result<Report, PlanError>
     })
 }
 
-// The report of the search that `solve` makes on a job.
+// The report of the search that `solve` makes on a job, or why there is none, as `solve` has it. Only memory for the report itself may be wanting after the sittings.
 pub fn explain<O: Order, P: RestartPolicy>(
     heap: Global,
     job: &[u8],
@@ -73,7 +73,8 @@ pub fn explain<O: Order, P: RestartPolicy>(
     settings: Settings,
 ) -> Result<Report, PlanError>
     ensures reports { MatchResult result (Reported O.meaning P.meaning job.now settings (O.held order.old) (O.held order.new) (P.held policy.old) (P.held policy.new)) (Unanswered job.now settings) }
-    ensures refused { Accepted settings → RefusedAsLoaded job.now result }
+    ensures refused { RefusedAsDue job.now settings result }
+    ensures kept { IfErr result (Unreported O.meaning P.meaning O.held P.held job.now settings order.old order.new policy.old policy.new) }
 {
     let (memory, sat) = searched(heap, job, order, policy, settings)?;
     told(heap, memory, sat)

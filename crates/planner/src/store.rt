@@ -8,9 +8,9 @@ use rules::table::TableEntry;
 use std::alloc::Global;
 
 // The most groups and the most rules of a job.
-pub const GROUPS: usize = 200;
+const GROUPS: usize = 200;
 
-pub const RULES: usize = 4096;
+const RULES: usize = 4096;
 
 // What a job says: its lists, its gaps and its tables.
 #[derive(Drop)]

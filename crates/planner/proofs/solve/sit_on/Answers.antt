@@ -1,5 +1,5 @@
 use Rattle.std.proofs.Common.{◌≡◌, suc, ◌+◌, ◌-◌, arith}
-use Rattle.planner.proofs.Goings.{along_first, along_last, along_settled, along_refused, along_open, kept_on, on_refused}
+use Rattle.planner.proofs.Goings.{along_first, along_last, along_settled, along_refused, along_open, kept_on}
 use Rattle.planner.proofs.solve.sit_on.Goals as goal
 
 pub loop-sitting-init : goal.loop-sitting-init
@@ -13,12 +13,11 @@ loop-sitting-preserved g c =
     let left : c.args.settings.sittings - c.loop-sitting._sitting ≡ suc (c.args.settings.sittings - (c.loop-sitting._sitting + 1)) = omega arith in
     along_open (rw left at c.loop-sitting.invariant) new.self new.order new.policy c.in_ok-settled.ensures.kept c.in-Open.next (rw c.in-Open.is at c.in_ok-settled.ensures.answers)
 
-pub returns-in_err-settled-clause-refused : goal.returns-in_err-settled-clause-refused
-returns-in_err-settled-clause-refused g c = λ ready.
+pub returns-in_err-settled-clause-sat : goal.returns-in_err-settled-clause-sat
+returns-in_err-settled-clause-sat g c =
     let new = c.sit.new in
     let left : c.args.settings.sittings - c.loop-sitting._sitting ≡ suc (c.args.settings.sittings - (c.loop-sitting._sitting + 1)) = omega arith in
-    let due = along_refused (rw left at c.loop-sitting.invariant) new.self new.order new.policy ready c.in_err-settled.field-0.0 c.in_err-settled.ensures.answers in
-    on_refused c.from_residual.result c.in_err-settled.field-0.0.0 c.from_residual.ensures.1 due
+    absurd (along_refused (rw left at c.loop-sitting.invariant) new.self new.order new.policy c.requires.ready c.requires.within c.in_err-settled.field-0.0 c.in_err-settled.ensures.answers)
 
 pub returns-in_err-settled-clause-kept : goal.returns-in_err-settled-clause-kept
 returns-in_err-settled-clause-kept g c = kept_on c.args.memory.now c.loop-sitting.memory c.sit.new.self c.loop-sitting.invariant.kept c.in_err-settled.ensures.kept
