@@ -1,0 +1,10 @@
+mod Numbers
+mod Choosing
+mod Readings
+mod Writings
+mod Printing
+mod Accounts
+mod Reports
+mod Limits
+mod Once
+mod OneReport

@@ -1,0 +1,4 @@
+pub mod Words
+pub mod Chosen
+pub mod Printed
+pub mod Reported
