@@ -1,5 +1,5 @@
 -- The bytes of a small job.
-use Rattle.std.specs.Prelude.{ℕ, ◌+◌, List, [], ◌∷◌, ◌++◌, length, min}
+use Rattle.std.specs.Prelude.{ℕ, ◌+◌, cond, List, [], ◌∷◌, ◌++◌, length, min, ◌==◌}
 use Rattle.std.specs.Int.{to_be_bytes, w16, w64}
 use Rattle.std.specs.List.{flat_map}
 use Rattle.trials.specs.declared.job.Gap.{Gap}
@@ -12,6 +12,10 @@ number OfCounts = 0
 number OfGroup = 1
 number OfGap = 2
 number OfTable = 3
+
+-- how long a record is, by its first byte
+abbrev pub record_length : ℕ → ℕ
+record_length kind = cond (kind == 0) 5 (cond (kind == 1) 9 (cond (kind == 2) 6 517))
 
 -- a record's kind, and two numbers
 abbrev pub record_bytes : ℕ → ℕ × ℕ → List ℕ

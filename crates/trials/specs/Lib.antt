@@ -5,3 +5,5 @@ pub mod AlternatingLemmas
 pub mod Kept
 pub mod Bytes
 pub mod Tallies
+pub mod Heaviest
+pub mod HeaviestLemmas

@@ -16,7 +16,7 @@ use Rattle.trials.specs.Highest.{highest_of, top, highest_first}
 abbrev pub Among : List ℕ → ℕ → Option ℕ → Type 0
 Among ms n a = MatchOption a ((j : ℕ) → j < n → Open ms j → ⊥) (λ g. Open ms g)
 
-past : (ms : List ℕ) (n : ℕ) (a : Option ℕ) → (Open ms n → ⊥) → Among ms n a → Among ms (suc n) a
+pub past : (ms : List ℕ) (n : ℕ) (a : Option ℕ) → (Open ms n → ⊥) → Among ms n a → Among ms (suc n) a
 past ms n None shut h = λ j l o. elim (cases_eq j n) [ inl e ↦ shut (subst (Open ms) e o) | inr ne ↦ h j (omega arith) o ]
 past ms n (Some g) shut h = h
 
@@ -27,7 +27,7 @@ highest_among ms (suc n) =
     (λ e. leb-true 2 (count ms n) e)
     (λ e. past ms n (highest_of ms n) (λ o. omega (arith, leb-false 2 (count ms n) e)) (highest_among ms n))
 
-branches_from : (ms : List ℕ) (a : Option ℕ) → Among ms (length ms) a → Branches ms a
+pub branches_from : (ms : List ℕ) (a : Option ℕ) → Among ms (length ms) a → Branches ms a
 branches_from ms None h = λ g o. h g (open_within ms g o) o
 branches_from ms (Some g) h = h
 
@@ -66,8 +66,8 @@ remains_from (suc n) = top_has (suc n) (n - count_leading_zeros (suc n) (suc n))
 
 pub highest_lawful : Lawful highest_first
 highest_lawful = record {
-  branches = λ h ms. branches_from ms (highest_of ms (length ms)) (highest_among ms (length ms));
-  remains = λ h ms g. remains_from (slice_index ms g);
+  branches = λ h ms _. branches_from ms (highest_of ms (length ms)) (highest_among ms (length ms));
+  remains = λ h ms g _. remains_from (slice_index ms g);
 }
 
 -- ---- what the code answers

@@ -1,7 +1,8 @@
-// The drawn jobs, each solved in three ways, by a script of calls, and by trying every choice.
+// The drawn jobs, each solved in four ways, by a script of calls, and by trying every choice.
 use crate::alternating::Alternating;
 use crate::draw::Draw;
 use crate::exhaustive::has_plan;
+use crate::heaviest::Heaviest;
 use crate::highest::HighestFirst;
 use crate::job::Job;
 use crate::script::{Calls, play};
@@ -38,6 +39,7 @@ pub struct Tallies {
     pub program: Tally,
     pub steady: Tally,
     pub highest: Tally,
+    pub heaviest: Tally,
     pub scripts: Tally,
     pub calls: Calls,
 }
@@ -68,15 +70,21 @@ fn play_job(
 
 impl Tallies {
     pub fn disagreements(&self) -> u32 {
-        [self.program, self.steady, self.highest, self.scripts]
-            .iter()
-            .fold(self.calls.wrong, |sum, tally| {
-                sum.saturating_add(tally.disagreements)
-            })
+        [
+            self.program,
+            self.steady,
+            self.highest,
+            self.heaviest,
+            self.scripts,
+        ]
+        .iter()
+        .fold(self.calls.wrong, |sum, tally| {
+            sum.saturating_add(tally.disagreements)
+        })
     }
 
-    // Solves one job as the program does, with restarts after each closing and a short base, and with
-    // the trials' own order and policy in sittings of two moves; and plays a script of calls on it.
+    // Solves one job as the program does, with restarts after each closing and a short base, with
+    // the trials' own order and policy in sittings of two moves, and with their order by weights; and plays a script of calls on it.
     fn try_job(&mut self, heap: Global, draw: &mut Draw, job: &Job) -> Result<(), AllocError> {
         let solvable = has_plan(heap, job)?;
         let bytes = job.bytes(heap)?;
@@ -93,6 +101,9 @@ impl Tallies {
         let mut policy = Alternating::new(1, 3);
         let answer = solve(heap, bytes, &mut HighestFirst, &mut policy, SHORT_SITTINGS);
         self.highest.note(job, solvable, answer);
+        let mut order = Heaviest::new();
+        let answer = solve(heap, bytes, &mut order, &mut Steady::new(2), PROGRAM);
+        self.heaviest.note(job, solvable, answer);
         let answer = play_job(heap, draw, bytes, &mut self.calls);
         self.scripts.note(job, solvable, answer);
         Ok(())

@@ -1,8 +1,8 @@
 // A small job as the trials hold it: its bytes, and whether a plan keeps its rules.
-ghost use Rattle.std.specs.Prelude.{◌≡◌, ℕ, ◌++◌, Bool, List, min, IfOk, OnOk};
+ghost use Rattle.std.specs.Prelude.{◌≡◌, ℕ, ◌≤◌, ◌++◌, Bool, List, length, min, IfOk, MatchOption, OnOk};
 ghost use Rattle.std.specs.List.{flat_map, list_all, zip};
 ghost use Rattle.std.specs.Int.{to_be_bytes, w16, w64};
-ghost use Rattle.trials.specs.Bytes.{number, record_bytes, group_bytes, gap_bytes, table_bytes, job_bytes};
+ghost use Rattle.trials.specs.Bytes.{number, record_length, record_bytes, group_bytes, gap_bytes, table_bytes, job_bytes};
 ghost use Rattle.trials.specs.Kept.{has, listed, apart, in_rows, kept, all_kept, plan};
 
 use std::alloc::{AllocError, Global};
@@ -216,4 +216,33 @@ impl Job {
             && are_listed(channels, &self.lists)
             && self.keeps_rules(channels)
     }
+}
+
+// How long a record is, by its first byte.
+fn record_len(kind: u8) -> usize
+    ensures length { result ≡ record_length kind }
+    ensures some { 1 ≤ result }
+{
+    match kind {
+        0 => 5,
+        1 => 9,
+        2 => 6,
+        _ => 517,
+    }
+}
+
+// Where an input ends too early, if it does: the offset of the record that it cuts off, or of one that is missing before an end record.
+pub fn ends_early(bytes: &[u8]) -> Option<usize>
+    ensures { MatchOption result (5 ≤ length bytes.now) (λ at. at ≤ length bytes.now) }
+{
+    let mut rest = bytes;
+    while let Some(kind) = rest.first().copied()
+        && let Some(later) = rest.get(record_len(kind)..)
+    {
+        if kind == 0 {
+            return None;
+        }
+        rest = later;
+    }
+    Some(bytes.len() - rest.len())
 }

@@ -1,7 +1,7 @@
 // How often each verdict came, and how often it was not the one that trying every choice gives.
 ghost use Rattle.std.specs.Prelude.{◌≡◌};
 ghost use Rattle.trials.specs.Kept.{plan};
-ghost use Rattle.trials.specs.Tallies.{one_more, noted};
+ghost use Rattle.trials.specs.Tallies.{one_more, noted, fronted};
 
 use crate::job::Job;
 use planner::answer::{Answer, Verdict};
@@ -13,6 +13,13 @@ pub struct Tally {
     pub plans: u32,
     pub none: u32,
     pub open: u32,
+    pub disagreements: u32,
+}
+
+// The same of inputs that end too early.
+#[derive(Clone, Copy, Default)]
+pub struct Fronts {
+    pub refused: u32,
     pub disagreements: u32,
 }
 
@@ -39,6 +46,19 @@ impl Tally {
     }
 }
 
+impl Fronts {
+    // Counts the answer to an input of which it is known where it ends too early, if it does.
+    pub fn note(&mut self, ends: Option<usize>, answer: Result<Answer, PlanError>)
+        ensures { self.new ≡ fronted self.old ends answer }
+    {
+        match (ends, answer) {
+            (Some(at), Err(PlanError::Refused(refusal)))
+                if refusal.number() == 1 && refusal.place() == at => count_one(&mut self.refused),
+            _ => count_one(&mut self.disagreements),
+        }
+    }
+}
+
 impl fmt::Display for Tally {
     fn fmt<W: fmt::Write>(&self, f: &mut fmt::Formatter<W>) -> fmt::Result {
         let Tally {
@@ -51,5 +71,15 @@ impl fmt::Display for Tally {
             f,
             "{plans} plans, {none} none, {open} open, {disagreements} disagreements"
         )
+    }
+}
+
+impl fmt::Display for Fronts {
+    fn fmt<W: fmt::Write>(&self, f: &mut fmt::Formatter<W>) -> fmt::Result {
+        let Fronts {
+            refused,
+            disagreements,
+        } = *self;
+        write!(f, "{refused} refused, {disagreements} disagreements")
     }
 }
