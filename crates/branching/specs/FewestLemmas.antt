@@ -51,7 +51,7 @@ fewest_of_is ms (suc n) = after_is ms n (fewest_of ms n) (fewest_of_is ms n)
 pub open_within : (ms : List ℕ) (g : ℕ) → Open ms g → g < length ms
 open_within ms g o = elim (cases_lt g (length ms)) [ inl l ↦ l | inr l ↦ absurd (let e = get_or_past ms g 0 l in omega (arith, ones_zero, ap count_ones e)) ]
 
-branches_from : (ms : List ℕ) (a : Option ℕ) → Answers ms (length ms) a → Branches ms a
+pub branches_from : (ms : List ℕ) (a : Option ℕ) → Answers ms (length ms) a → Branches ms a
 branches_from ms None h = λ g o. h g (open_within ms g o) o
 branches_from ms (Some g) h = h.two
 
@@ -59,7 +59,7 @@ pub lowest_is : (m : ℕ) → MatchOption (lowest m) ((c : ℕ) → Has m c → 
 lowest_is zero = none_has
 lowest_is (suc n) = trailing_lowest (suc n) (suc n) (omega arith) (below_pow (suc n))
 
-remains_from : (m : ℕ) → MatchOption (lowest m) ((c : ℕ) → Has m c → ⊥) (Has m)
+pub remains_from : (m : ℕ) → MatchOption (lowest m) ((c : ℕ) → Has m c → ⊥) (Has m)
 remains_from zero = none_has
 remains_from (suc n) = (lowest_is (suc n)).0
 

@@ -60,7 +60,7 @@ impl Order for FewestFirst {
     ghost lawful = { fewest_lawful };
 
     fn group(&mut self, domains: &[u64]) -> Option<u16>
-        requires { length domains.now ≤ 200 }
+        requires { length domains.now ≤ 65536 }
         ensures answer { result ≡ fewest domains.now }
         ensures after { ◌≡◌ {A = Unit {0}} tt tt }
         ensures least { FewestAnswer domains.now result }

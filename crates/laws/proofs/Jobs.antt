@@ -13,7 +13,7 @@ use Rattle.model.specs.Moves.{start}
 use Rattle.laws.specs.Orders.{IsLawfulOrder, Policy, cutoffs}
 use Rattle.laws.specs.Sittings.{Search, begun, Verdict, none, Sits}
 use Rattle.laws.specs.Jobs.{gap_rule, fewest, last_conflict_order, Worked, Clash, ClashLater, Three, Jobs}
-use Rattle.laws.proofs.Orders.{behaves}
+use Rattle.laws.proofs.Orders.{behaves, lawful_on}
 use Rattle.laws.proofs.Filter.{remaining_leaves}
 use Rattle.laws.proofs.Total.{sits_exists}
 
@@ -25,7 +25,7 @@ last_behaves = behaves (last_conflict fewest_first) (layer_lawful fewest_first f
 
 -- The sitting on a job.
 abbrev sitting_on : (lists : List ℕ) → length lists ≤ 200 → (rules : List GapEntry) (policy : Policy) (room : ℕ) → (v : Verdict) × (t : Search) × Sits lists (gaps (length lists) rules) fewest policy room 10000 (begun start) v t
-sitting_on lists few rules policy room = sits_exists lists (gaps (length lists) rules) few (gaps_lawful (length lists) rules) fewest fewest_behaves policy room 10000 (begun start)
+sitting_on lists few rules policy room = sits_exists lists (gaps (length lists) rules) (gaps_lawful (length lists) rules) fewest (lawful_on fewest (length lists) fewest_behaves few) policy room 10000 (begun start)
 
 dead_at_once : Worked (3 ∷ 3 ∷ []) (gap_rule 0 1 2 ∷ []) (cutoffs geometric 10) 4096 none 0 0 0 []
 unfolding ones ones_in count_trailing_zeros
@@ -41,7 +41,7 @@ clash = let r = sitting_on (3 ∷ 3 ∷ 3 ∷ []) (omega arith) clash_gaps (cuto
 clash_by_last : Clash last_conflict_order
 unfolding ones ones_in count_trailing_zeros
 clash_by_last =
-    let r = sits_exists (3 ∷ 3 ∷ 3 ∷ []) (gaps 3 clash_gaps) (omega arith) (gaps_lawful 3 clash_gaps) last_conflict_order last_behaves (cutoffs geometric 10) 4096 10000 (begun start) in
+    let r = sits_exists (3 ∷ 3 ∷ 3 ∷ []) (gaps 3 clash_gaps) (gaps_lawful 3 clash_gaps) last_conflict_order (lawful_on last_conflict_order 3 last_behaves (omega arith)) (cutoffs geometric 10) 4096 10000 (begun start) in
     (r.1, r.2, refl, refl, refl, refl)
 
 abbrev three_gaps : List GapEntry
@@ -69,7 +69,7 @@ clash_later = let r = sitting_on (3 ∷ 3 ∷ 3 ∷ 3 ∷ 3 ∷ []) (omega arith
 clash_sooner : ClashLater last_conflict_order 10 5
 unfolding ones ones_in count_trailing_zeros
 clash_sooner =
-    let r = sits_exists (3 ∷ 3 ∷ 3 ∷ 3 ∷ 3 ∷ []) (gaps 5 later_gaps) (omega arith) (gaps_lawful 5 later_gaps) last_conflict_order last_behaves (cutoffs geometric 10) 4096 10000 (begun start) in
+    let r = sits_exists (3 ∷ 3 ∷ 3 ∷ 3 ∷ 3 ∷ []) (gaps 5 later_gaps) (gaps_lawful 5 later_gaps) last_conflict_order (lawful_on last_conflict_order 5 last_behaves (omega arith)) (cutoffs geometric 10) 4096 10000 (begun start) in
     (r.1, r.2, refl, refl, refl, refl)
 
 equals_permitted : (c : ℕ) → c < 64 → (gaps 2 (gap_rule 0 1 0 ∷ [])).permits 0 c c ≡ true

@@ -54,9 +54,10 @@ low_word k m low =
         let e : i + k - k ≡ i = omega arith in
         sym (rw (parts, e) at high) ∙ no_bit i
 
+-- What remains is a word for each group.
+pub leaves_words : (lists : List ℕ) (book : Meaning) (s : State) (ms : List ℕ) → Leaves lists book s ms → (g : ℕ) → get_or ms g 0 < 2 ^ 64
+leaves_words lists book s ms l g = low_word 64 (get_or ms g 0) (λ c h. (l.remain.meets.within g c h).channel)
+
 -- What remains of at most 200 groups may be asked about.
 pub leaves_domains : (lists : List ℕ) (book : Meaning) (s : State) (ms : List ℕ) → length lists ≤ 200 → Leaves lists book s ms → Domains ms
-leaves_domains lists book s ms few l = record {
-  few = omega (arith, l.size);
-  words = λ g. low_word 64 (get_or ms g 0) (λ c h. (l.remain.meets.within g c h).channel);
-}
+leaves_domains lists book s ms few l = record { few = omega (arith, l.size); words = leaves_words lists book s ms l }

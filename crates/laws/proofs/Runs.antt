@@ -11,11 +11,13 @@ use Rattle.model.proofs.Sound.{sound_run, none_run, plan_run}
 use Rattle.model.proofs.Closings.{closings_run}
 use Rattle.model.proofs.Moves.{moves_run}
 use Rattle.laws.specs.Orders.{Order, IsLawfulOrder, Policy, IsLawfulPolicy}
+use Rattle.laws.specs.Sizes.{IsLawfulOn}
 use Rattle.laws.specs.Sittings.{Search, begun, Verdict, none, plan, unsettled, Turn, close, restart, decide, Sits, ends_none, ends_plan, spent, moves_on, trail}
 use Rattle.laws.specs.Requests.{Request, is_branch_sound, is_base_sound, sitting_refusal, restart_refusal}
 use Rattle.laws.specs.Runs.{Run, opened, sat, restarted, sitting_refused, restart_refused, history, Carried, Found, WithBook, sitting, restart as restart_call, refused_sitting, refused_restart}
 use Rattle.laws.specs.Law.{Kept, KeptThroughout, Counted, started, closed, restarted as counted_restart, decided, Good, Law, Continues}
-use Rattle.laws.proofs.Sittings.{turn_move, sits_keeps, sits_none, sits_plan}
+use Rattle.laws.proofs.Orders.{lawful_on}
+use Rattle.laws.proofs.Sittings.{turn_move_on, sits_keeps, sits_none, sits_plan}
 use Rattle.laws.proofs.Words.{branch_is, base_is}
 use Rattle.laws.proofs.Spare.{Spare, spare_move, spare_few}
 use Rattle.laws.proofs.Refusals.{open_agrees, open_some, open_few, restart_since, restart_fits}
@@ -56,7 +58,7 @@ module _ (lists : List ℕ) (book : Meaning) where
       (r + room, more (wider lists book r (r + room) (omega arith) start s run) (wider_move lists book room (r + room) (omega arith) s t move))
 
   -- What every move keeps holds along a trail.
-  module _ (few : length lists ≤ 200) (order : Order) (lo : IsLawfulOrder order) (policy : Policy) (lp : IsLawfulPolicy policy) (room : ℕ) where
+  module _ (order : Order) (right : IsLawfulOn (length lists) order) (policy : Policy) (lp : IsLawfulPolicy policy) (room : ℕ) where
     trail_all : (P : State → Type 0) → ((s t : State) → Move lists book room s t → P s → P t)
         → (n : ℕ) (s : Search) (v : Verdict) (t : Search) (sits : Sits lists book order policy room n s v t) (past : List State)
         → P s.state → AllByRecursion P past → AllByRecursion P (trail lists book order policy room sits past)
@@ -64,7 +66,7 @@ module _ (lists : List ℕ) (book : Meaning) where
     trail_all P step n s v t (ends_plan masks l x e q) past p h = h
     trail_all P step n s v t (spent g) past p h = h
     trail_all P step n s v t (moves_on {n = m} {t = u} turn rest) past p h =
-        let q = step s.state u.state (turn_move lists book order policy room few lo lp s u turn) p in
+        let q = step s.state u.state (turn_move_on lists book order policy room right lp s u turn) p in
         trail_all P step m u v t rest (u.state ∷ past) q (q, h)
 
     trail_kept : (n : ℕ) (s : Search) (v : Verdict) (t : Search) (sits : Sits lists book order policy room n s v t) (past : List State)
@@ -74,7 +76,7 @@ module _ (lists : List ℕ) (book : Meaning) where
     trail_kept n s v t (ends_plan masks l x e q) past h = h
     trail_kept n s v t (spent g) past h = h
     trail_kept n s v t (moves_on {n = m} {t = u} turn rest) past h =
-        let move = turn_move lists book order policy room few lo lp s u turn in
+        let move = turn_move_on lists book order policy room right lp s u turn in
         let later = All-weaker (λ p. Kept p s.state) (λ p. Kept p u.state) (λ p k x e. move_keeps lists book room x s.state u.state move (k x e)) past h.0 in
         trail_kept m u v t rest (u.state ∷ past) ((λ x e. e, later), (later, h.1))
 
@@ -101,9 +103,9 @@ module _ (lists : List ℕ) (book : Meaning) where
     run_all v s (opened q l b e) = (first, (first, tt))
     run_all v s (sat {s = s0} run q f b e order lo policy lp {t = t} sits) =
         let h = run_all unsettled s0 run in
-        let few = run_few unsettled s0 run in (
-          sits_keeps lists book order policy (length q.base) few lo lp P (step (length q.base)) q.allowance (begun s0) v t sits h.0,
-          trail_all few order lo policy lp (length q.base) P (step (length q.base)) q.allowance (begun s0) v t sits (history lists book run) h.0 h.1,
+        let right = lawful_on order (length lists) lo (run_few unsettled s0 run) in (
+          sits_keeps lists book order policy (length q.base) right lp P (step (length q.base)) q.allowance (begun s0) v t sits h.0,
+          trail_all order right policy lp (length q.base) P (step (length q.base)) q.allowance (begun s0) v t sits (history lists book run) h.0 h.1,
         )
     run_all v s (restarted {s = s0} run q f e) =
         let h = run_all unsettled s0 run in
@@ -115,7 +117,7 @@ module _ (lists : List ℕ) (book : Meaning) where
   run_kept : (v : Verdict) (s : State) (run : Run lists book v s) → AllByRecursion (λ p. Kept p s) (history lists book run) × KeptThroughout (history lists book run)
   run_kept v s (opened q l b e) = ((λ x h. h, tt), (tt, tt))
   run_kept v s (sat {s = s0} run q f b e order lo policy lp {t = t} sits) =
-      trail_kept (run_few unsettled s0 run) order lo policy lp (length q.base) q.allowance (begun s0) v t sits (history lists book run) (run_kept unsettled s0 run)
+      trail_kept order (lawful_on order (length lists) lo (run_few unsettled s0 run)) policy lp (length q.base) q.allowance (begun s0) v t sits (history lists book run) (run_kept unsettled s0 run)
   run_kept v s (restarted {s = s0} run q f e) =
       let h = run_kept unsettled s0 run in
       let move : Move lists book (length q.base) s0 (restarting s0) = called (restart_since lists q s0 f e) (restart_fits lists q s0 f e) in

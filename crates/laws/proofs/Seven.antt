@@ -12,6 +12,7 @@ use Rattle.laws.specs.Requests.{Request}
 use Rattle.laws.specs.Runs.{Run, opened, sat, restarted, sitting_refused, restart_refused}
 use Rattle.laws.specs.Jobs.{gap_rule, fewest, SevenCalls}
 use Rattle.laws.proofs.Jobs.{fewest_behaves}
+use Rattle.laws.proofs.Orders.{lawful_on}
 use Rattle.laws.proofs.Total.{sits_exists}
 
 abbrev lists : List ℕ
@@ -51,7 +52,7 @@ call allowance branch_length base_used moves since branch base = record {
 }
 
 abbrev sitting_from : (n : ℕ) (s : State) → (v : Verdict) × (t : Search) × Sits lists book fewest policy 4 n (begun s) v t
-sitting_from n s = sits_exists lists book (omega arith) (gaps_lawful 3 three_rules) fewest fewest_behaves policy 4 n (begun s)
+sitting_from n s = sits_exists lists book (gaps_lawful 3 three_rules) fewest (lawful_on fewest 3 fewest_behaves (omega arith)) policy 4 n (begun s)
 
 abbrev q1 : Request
 q1 = call 1 0 0 0 0 (replicate 192 0) (replicate 4 0)

@@ -10,8 +10,10 @@ use Rattle.rules.specs.Meanings.{Meaning}
 use Rattle.model.specs.Remains.{Family, family, Single, Alive}
 use Rattle.model.specs.Moves.{State, deciding, Left, EndedNone, Move, close as may_close, restart as may_restart, decide as may_decide, Reach, here, more}
 use Rattle.laws.specs.Orders.{asked, Order, IsLawfulOrder, Policy, IsLawfulPolicy}
+use Rattle.laws.specs.Sizes.{IsLawfulOn}
 use Rattle.laws.specs.Sittings.{Search, Verdict, none, plan, unsettled, Leaves, Turn, close, restart, decide, Sits, ends_none, ends_plan, spent, moves_on}
-use Rattle.laws.proofs.Masks.{Has-has, leaves_domains}
+use Rattle.laws.proofs.Masks.{Has-has, leaves_words}
+use Rattle.laws.proofs.Orders.{lawful_on}
 
 group_of : (g c : ℕ) → c < 64 → grp (64 * g + c) ≡ g
 group_of g c h = omega arith
@@ -24,15 +26,15 @@ another : (m c : ℕ) → (a : ℕ) × (b : ℕ) × (a < b) × Has m a × Has m 
 another m c (a, b, l, p, q) = elim (cases_eq a c) [ inl e ↦ (b, q, λ f. absurd (omega arith)) | inr e ↦ (a, p, e) ]
 
 module _ (lists : List ℕ) (book : Meaning) (order : Order) (policy : Policy) (room : ℕ) where
-  module _ (few : length lists ≤ 200) (lawful : IsLawfulOrder order) (steady : IsLawfulPolicy policy) where
+  module _ (right : IsLawfulOn (length lists) order) (steady : IsLawfulPolicy policy) where
     -- What the order answers may be decided.
     decides : (s : Search) (masks : List ℕ) → Leaves lists book s.state masks → Alive lists (family masks)
         → (g c : ℕ) → order.group s.events masks ≡ Some g → order.channel (asked masks ∷ s.events) masks g ≡ Some c
         → Move lists book room s.state (deciding (64 * g + c) s.state)
     decides s masks l alive g c eg ec =
-        let domains = leaves_domains lists book s.state masks few l in
-        let open-group : Open masks g = subst (Branches masks) eg (lawful.branches s.events masks domains) in
-        let channel : Has (get_or masks g 0) c = subst (Remains masks g) ec (lawful.remains (asked masks ∷ s.events) masks g domains) in
+        let words = leaves_words lists book s.state masks l in
+        let open-group : Open masks g = subst (Branches masks) eg (right.branches s.events masks l.size words) in
+        let channel : Has (get_or masks g 0) c = subst (Remains masks g) ec (right.remains (asked masks ∷ s.events) masks g l.size words) in
         let m = get_or masks g 0 in
         let d = another m c (counts_two m m (below_pow m) open-group) in
         let kept = Has-has m c channel in
@@ -42,11 +44,11 @@ module _ (lists : List ℕ) (book : Meaning) (order : Order) (policy : Policy) (
         (rw (group_of g c small) (Has-has m d.0 d.1))
         (λ e. d.2 (e ∙ channel_of g c small))
 
-    pub turn_move : (s t : Search) → Turn lists book order policy room s t → Move lists book room s.state t.state
-    turn_move s t (close masks l dead some) = may_close (family masks) l.remain dead some
-    turn_move s t (restart masks l alive wide due) =
+    pub turn_move_on : (s t : Search) → Turn lists book order policy room s t → Move lists book room s.state t.state
+    turn_move_on s t (close masks l dead some) = may_close (family masks) l.remain dead some
+    turn_move_on s t (restart masks l alive wide due) =
         may_restart (family masks) l.remain alive wide (policy.cutoff s.restarts) (steady s.restarts) due.0 due.1
-    turn_move s t (decide masks l alive wide not_due g c eg ec) = decides s masks l alive g c eg ec
+    turn_move_on s t (decide masks l alive wide not_due g c eg ec) = decides s masks l alive g c eg ec
 
     -- What every move keeps holds at the end, and at all states of the trail.
     pub sits_keeps : (P : State → Type 0) → ((s t : State) → Move lists book room s t → P s → P t)
@@ -54,10 +56,14 @@ module _ (lists : List ℕ) (book : Meaning) (order : Order) (policy : Policy) (
     sits_keeps P step n s v t (ends_none masks l dead e) p = p
     sits_keeps P step n s v t (ends_plan masks l x e single) p = p
     sits_keeps P step n s v t (spent going) p = p
-    sits_keeps P step n s v t (moves_on {n = m} {t = u} turn rest) p = sits_keeps P step m u v t rest (step s.state u.state (turn_move s u turn) p)
+    sits_keeps P step n s v t (moves_on {n = m} {t = u} turn rest) p = sits_keeps P step m u v t rest (step s.state u.state (turn_move_on s u turn) p)
 
     pub sits_reach : (n : ℕ) (s : Search) (v : Verdict) (t : Search) → Sits lists book order policy room n s v t → Reach lists book room s.state t.state
     sits_reach n s v t sits = sits_keeps (λ u. Reach lists book room s.state u) (λ u w move reach. more reach move) n s v t sits here
+
+  -- So is a turn by a lawful order on at most 200 groups.
+  pub turn_move : length lists ≤ 200 → IsLawfulOrder order → IsLawfulPolicy policy → (s t : Search) → Turn lists book order policy room s t → Move lists book room s.state t.state
+  turn_move few lawful steady = turn_move_on (lawful_on order (length lists) lawful few) steady
 
   turn_counts : (s t : Search) → Turn lists book order policy room s t → t.state.moves ≡ suc s.state.moves
   turn_counts s t (close masks l dead some) = refl

@@ -12,9 +12,10 @@ use Rattle.model.specs.Decisions.{takens}
 use Rattle.model.specs.Words.{recorded}
 use Rattle.model.specs.Remains.{family, Dead, Alive, Wide, Single}
 use Rattle.model.specs.Moves.{State, nogoods}
-use Rattle.laws.specs.Orders.{asked, Order, IsLawfulOrder, Policy}
+use Rattle.laws.specs.Orders.{asked, Order, Policy}
+use Rattle.laws.specs.Sizes.{IsLawfulOn}
 use Rattle.laws.specs.Sittings.{Search, Verdict, none, plan, unsettled, Leaves, Due, Turn, close, restart, decide, Sits, ends_none, ends_plan, spent, moves_on, after_close, after_restart, after_decide}
-use Rattle.laws.proofs.Masks.{has-Has, Has-has, leaves_domains}
+use Rattle.laws.proofs.Masks.{has-Has, Has-has, leaves_words}
 use Rattle.model.proofs.Largest.{find, find_some, find_none}
 use Rattle.laws.proofs.Filter.{has_none, remaining, remaining_leaves}
 use Rattle.laws.proofs.Once.{going}
@@ -74,7 +75,7 @@ module _ (lists : List ℕ) (book : Meaning) (s : State) (masks : List ℕ) (l :
       let t = top_has m a.0 small a.1 in
       (rw (at_top g) t, λ c q. rw (at_top g) (counts m c (top m) q t (f g)))
 
-module _ (lists : List ℕ) (book : Meaning) (few : length lists ≤ 200) (lawful : Lawful book) (order : Order) (lo : IsLawfulOrder order) (policy : Policy) (room : ℕ) where
+module _ (lists : List ℕ) (book : Meaning) (lawful : Lawful book) (order : Order) (right : IsLawfulOn (length lists) order) (policy : Policy) (room : ℕ) where
   -- Where a search stands.
   pub data Stage (s : Search) : Type 0 where
     at_none : (masks : List ℕ) → Leaves lists book s.state masks → Dead lists (family masks) → takens s.state.branch ≡ [] → Stage s
@@ -98,20 +99,20 @@ module _ (lists : List ℕ) (book : Meaning) (few : length lists ≤ 200) (lawfu
   module _ (s : Search) (masks : List ℕ) (l : Leaves lists book s.state masks) (alive : Alive lists (family masks)) where
     abbrev pub stage_channel : (g : ℕ) → order.group s.events masks ≡ Some g → (o : Option ℕ) → order.channel (asked masks ∷ s.events) masks g ≡ o → due? s ≡ false → Stage s
     stage_channel g eg None ec e =
-        let two : Open masks g = subst (Branches masks) eg (lo.branches s.events masks (leaves_domains lists book s.state masks few l)) in
-        let f = subst (Remains masks g) ec (lo.remains (asked masks ∷ s.events) masks g (leaves_domains lists book s.state masks few l)) in
+        let two : Open masks g = subst (Branches masks) eg (right.branches s.events masks l.size (leaves_words lists book s.state masks l)) in
+        let f = subst (Remains masks g) ec (right.remains (asked masks ∷ s.events) masks g l.size (leaves_words lists book s.state masks l)) in
         let t = counts_two (get_or masks g 0) (get_or masks g 0) (below_pow (get_or masks g 0)) two in
         absurd (f t.0 t.3)
     stage_channel g eg (Some c) ec e =
-        in_turn (after_decide masks g c s) (decide masks l alive (two_wide lists book s.state masks l g (subst (Branches masks) eg (lo.branches s.events masks (leaves_domains lists book s.state masks few l)))) (not_due s e) g c eg ec)
+        in_turn (after_decide masks g c s) (decide masks l alive (two_wide lists book s.state masks l g (subst (Branches masks) eg (right.branches s.events masks l.size (leaves_words lists book s.state masks l)))) (not_due s e) g c eg ec)
 
     abbrev pub stage_open : (g : ℕ) → order.group s.events masks ≡ Some g → (b : Bool) → due? s ≡ b → Stage s
-    stage_open g eg true e = in_turn (after_restart s) (restart masks l alive (two_wide lists book s.state masks l g (subst (Branches masks) eg (lo.branches s.events masks (leaves_domains lists book s.state masks few l)))) (is_due_lem s e))
+    stage_open g eg true e = in_turn (after_restart s) (restart masks l alive (two_wide lists book s.state masks l g (subst (Branches masks) eg (right.branches s.events masks l.size (leaves_words lists book s.state masks l)))) (is_due_lem s e))
     stage_open g eg false e = stage_channel g eg (order.channel (asked masks ∷ s.events) masks g) refl e
 
     abbrev pub stage_alive : (o : Option ℕ) → order.group s.events masks ≡ o → Stage s
     stage_alive None eg =
-        at_plan masks l (map top masks) (length-map masks top ∙ l.size) (one_each lists book s.state masks l alive (subst (Branches masks) eg (lo.branches s.events masks (leaves_domains lists book s.state masks few l))))
+        at_plan masks l (map top masks) (length-map masks top ∙ l.size) (one_each lists book s.state masks l alive (subst (Branches masks) eg (right.branches s.events masks l.size (leaves_words lists book s.state masks l))))
     stage_alive (Some g) eg = stage_open g eg (due? s) refl
 
   abbrev pub stage_at : (s : Search) (masks : List ℕ) → Leaves lists book s.state masks → (o : Option ℕ) → find (λ g. eqb (get_or masks g 0) 0) (length lists) ≡ o → Stage s

@@ -7,6 +7,8 @@ use Rattle.model.specs.Decisions.{Decision, Branch, Nogood}
 use Rattle.model.specs.Words.{recorded}
 use Rattle.model.specs.Moves.{State, restarting, Reach}
 use Rattle.laws.specs.Orders.{Order, IsLawfulOrder, Policy, IsLawfulPolicy}
+use Rattle.laws.specs.Sizes.{IsLawfulOn, IsLawfulEverywhere}
+use Rattle.laws.specs.Jobs.{fewest}
 use Rattle.laws.specs.Sittings.{Search, begun, Verdict, plan, unsettled, Leaves, Sits}
 use Rattle.laws.specs.Words.{branch?, whole_base, base?}
 use Rattle.laws.specs.Requests.{Request, Refusal, first_of, empty_from, is_branch_sound, is_base_sound, sitting_refusal, restart_refusal}
@@ -18,7 +20,7 @@ abbrev pub SitsOnce : Type 0
 SitsOnce = (lists : List ℕ) (book : Meaning) (order : Order) (policy : Policy) (room n : ℕ) (s : Search) (v w : Verdict) (t u : Search)
     → Sits lists book order policy room n s v t → Sits lists book order policy room n s w u → (v ≡ w) × (t ≡ u)
 
--- And there is one: what remains always exists, and every sitting on at most 200 groups comes to a verdict.
+-- And there is one: what remains always exists, and every sitting comes to a verdict, on any number of groups, where the order is right on so many.
 abbrev pub RemainsExists : Type 0
 RemainsExists = (lists : List ℕ) (book : Meaning) → Lawful book → (s : State) → (masks : List ℕ) × Leaves lists book s masks
 
@@ -26,10 +28,26 @@ abbrev pub SitsExists : Type 0
 SitsExists = (lists : List ℕ) (book : Meaning) → length lists ≤ 200 → Lawful book → (order : Order) → IsLawfulOrder order → (policy : Policy) (room n : ℕ) (s : Search)
     → (v : Verdict) × (t : Search) × Sits lists book order policy room n s v t
 
--- On at most 200 groups it is a chain of the moves of `model`.
+abbrev pub SitsExistsOn : Type 0
+SitsExistsOn = (lists : List ℕ) (book : Meaning) → Lawful book → (order : Order) → IsLawfulOn (length lists) order → (policy : Policy) (room n : ℕ) (s : Search)
+    → (w : Verdict) × (u : Search) × Sits lists book order policy room n s w u
+
+-- An order that is right everywhere is right on any number of groups, and one that is lawful on at most 200.
+abbrev pub RightOn : Type 0
+RightOn = (order : Order) (n : ℕ) → (IsLawfulEverywhere order → IsLawfulOn n order) × (IsLawfulOrder order → n ≤ 200 → IsLawfulOn n order)
+
+-- Fewest first is right everywhere.
+abbrev pub FewestEverywhere : Type 0
+FewestEverywhere = IsLawfulEverywhere fewest
+
+-- A sitting is a chain of the moves of `model`: by a lawful order on at most 200 groups, and on any number by an order that is right on so many.
 abbrev pub SitsReaches : Type 0
 SitsReaches = (lists : List ℕ) (book : Meaning) → length lists ≤ 200 → (order : Order) (policy : Policy) (room : ℕ) → IsLawfulOrder order → IsLawfulPolicy policy
     → (n : ℕ) (s : Search) (v : Verdict) (t : Search) → Sits lists book order policy room n s v t → Reach lists book room s.state t.state
+
+abbrev pub SitsReachesOn : Type 0
+SitsReachesOn = (lists : List ℕ) (book : Meaning) (order : Order) (policy : Policy) (room : ℕ) → IsLawfulOn (length lists) order → IsLawfulPolicy policy
+    → (n : ℕ) (s : Search) (w : Verdict) (u : Search) → Sits lists book order policy room n s w u → Reach lists book room s.state u.state
 
 -- Where it ends open, it has made just the moves allowed.
 abbrev pub OpenSpends : Type 0

@@ -2,7 +2,7 @@
 #![tactic(auto)]
 
 ghost use Rattle.laws.specs.Orders.{IsLawfulOrder, behaviour, IsLawfulPolicy, cutoffs};
-ghost use Rattle.laws.specs.Statements.{SitsOnce, RemainsExists, SitsExists, SitsReaches, OpenSpends, PlansArePlans, RunsLawful, SittingContinues, RestartContinues, RefusedContinues, AcceptedStands, AcceptedContinues, BranchTested, BaseTested, FirstRefusal, LowestEmpty, Undisturbed};
+ghost use Rattle.laws.specs.Statements.{SitsOnce, RemainsExists, SitsExists, SitsExistsOn, RightOn, FewestEverywhere, SitsReaches, SitsReachesOn, OpenSpends, PlansArePlans, RunsLawful, SittingContinues, RestartContinues, RefusedContinues, AcceptedStands, AcceptedContinues, BranchTested, BaseTested, FirstRefusal, LowestEmpty, Undisturbed};
 ghost use Rattle.laws.specs.Jobs.{Jobs, SevenCalls};
 
 use branching::{Order, RestartPolicy};
@@ -22,9 +22,11 @@ pub fn a_sitting_has_one_end()
     ensures { SitsOnce }
 {}
 
-// On at most 200 groups it is a chain of the moves of `model`.
+// It is a chain of the moves of `model`: by a lawful order on at most 200 groups, and on any number of groups by an order
+// that is right on so many.
 pub fn a_sitting_makes_moves()
-    ensures { SitsReaches }
+    ensures on_at_most_200 { SitsReaches }
+    ensures on_any_number { SitsReachesOn }
 {}
 
 // Where it ends open, it has made just the moves allowed.
@@ -87,9 +89,13 @@ pub fn what_remains_exists()
     ensures { RemainsExists }
 {}
 
-// Every sitting on at most 200 groups has an end.
+// Every sitting has an end: by a lawful order on at most 200 groups, and on any number of groups by an order that is right
+// on so many, as one that is right everywhere is on any. Fewest first is such a one.
 pub fn a_sitting_has_an_end()
-    ensures { SitsExists }
+    ensures on_at_most_200 { SitsExists }
+    ensures on_any_number { SitsExistsOn }
+    ensures right_on { RightOn }
+    ensures fewest_first { FewestEverywhere }
 {}
 
 // Small jobs, worked through.
