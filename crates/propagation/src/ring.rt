@@ -1,6 +1,7 @@
 // A line of records over lent places.
 ghost use Rattle.std.specs.Prelude.{◌≡◌, ◌-◌, ◌<◌, ◌≤◌, [], ◌∷◌, ◌++◌, length, MatchOption, MatchResult};
 ghost use Rattle.rules.specs.Refusals.{told};
+ghost use Rattle.rules.specs.declared.refusal.Refusal.TheVariants.{LineFull};
 
 use rules::refusal::Refusal;
 
@@ -13,6 +14,21 @@ pub struct Ring<'a, T> {
     len: usize,
     ghost inside: { head ≤ length places.now - 1 },
     ghost fits: { len ≤ length places.now },
+}
+
+// The record that found no free place, given back.
+#[derive(Clone, Copy)]
+pub struct Full<T> {
+    pub record: T,
+}
+
+// The refusal of a line with no free place: number 19, told with place 0.
+impl<T: Drop> From<Full<T>> for Refusal {
+    ghost from_gives = { λ _ r. (r ≡ LineFull) × (told r ≡ (19, 0)) };
+
+    fn from(_: Full<T>) -> Refusal {
+        Refusal::LineFull
+    }
 }
 
 impl<'a, T: Copy> Ring<'a, T> {
@@ -30,15 +46,15 @@ impl<'a, T: Copy> Ring<'a, T> {
         }
     }
 
-    // Appends `x`. Where no place is free it refuses, by number 19, and the line stays as it was.
-    pub fn push(&mut self, x: T) -> Result<(), Refusal>
+    // Appends `x`. Where no place is free it gives `x` back inside `Full`, which converts into refusal 19, and the line stays as it was.
+    pub fn push(&mut self, x: T) -> Result<(), Full<T>>
         ensures held { self.new.places.ghost_name ≡ self.old.places.ghost_name }
         ensures sized { size self.new ≡ size self.old }
-        ensures line { MatchResult result (λ _. (length (queued self.old) < size self.old) × (queued self.new ≡ queued self.old ++ (x ∷ []))) (λ r. (told r ≡ (19, 0)) × (length (queued self.old) ≡ size self.old) × (self.new ≡ self.old)) }
+        ensures line { MatchResult result (λ _. (length (queued self.old) < size self.old) × (queued self.new ≡ queued self.old ++ (x ∷ []))) (λ e. (e.record ≡ x) × (length (queued self.old) ≡ size self.old) × (self.new ≡ self.old)) }
     {
         let n = self.places.len();
         if self.len == n {
-            return Err(Refusal::LineFull);
+            return Err(Full { record: x });
         }
         let room = n - self.head;
         let at = if self.len < room {
