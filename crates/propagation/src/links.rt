@@ -1,8 +1,9 @@
 // What propagation follows in place of a look at all rules and all nogoods. It is made once and lent to every call.
-ghost use Rattle.std.specs.Prelude.{◌≡◌, ℕ, ◌≤◌, [], length, take, slice_index};
+ghost use Rattle.std.specs.Prelude.{◌≡◌, ℕ, ◌≤◌, [], None, length, take, slice_index};
 ghost use Rattle.std.specs.List.{AllByRecursion};
 ghost use Rattle.model.specs.Words.{recorded, base_of};
 ghost use Rattle.propagation.specs.Bases.{Grouped};
+ghost use Rattle.propagation.specs.Chains.{link};
 ghost use Rattle.propagation.specs.Indexed.{Knows};
 ghost use Rattle.propagation.specs.Links.{Linked};
 
@@ -20,21 +21,41 @@ pub struct Links {
 }
 
 impl Links {
+    // Of no rule and of a base that has nothing. It is made of literals and no more, so that a caller has it made in its place, and not copied there.
+    pub fn blank() -> Links
+        ensures wires { (p : ℕ) → link result.wires p ≡ None }
+        ensures spreads { (g : ℕ) → slice_index result.spreads g ≡ 0 }
+        ensures known { Knows [] result.index }
+    {
+        Links {
+            wires: [None; CHAINS],
+            spreads: [0; 200],
+            index: Index::new(),
+        }
+    }
+
+    // Blank links become those of a book; the base stays the one that has nothing.
+    pub fn follow<B: RuleBook>(&mut self, book: &B)
+        requires groups { (B.meaning book.now).groups ≤ 200 }
+        requires rules { (B.meaning book.now).count ≤ 4096 }
+        requires wires { (p : ℕ) → link self.old.wires p ≡ None }
+        requires spreads { (g : ℕ) → slice_index self.old.spreads g ≡ 0 }
+        requires known { Knows [] self.old.index }
+        ensures { Linked (B.meaning book.now) [] self.new }
+    {
+        wire(book, &mut self.wires);
+        spread(book, &mut self.spreads);
+    }
+
     // Those of a book, and of a base that has nothing.
     pub fn new<B: RuleBook>(book: &B) -> Links
         requires groups { (B.meaning book.now).groups ≤ 200 }
         requires rules { (B.meaning book.now).count ≤ 4096 }
         ensures { Linked (B.meaning book.now) [] result }
     {
-        let mut wires = [None; CHAINS];
-        wire(book, &mut wires);
-        let mut spreads = [0; 200];
-        spread(book, &mut spreads);
-        Links {
-            wires,
-            spreads,
-            index: Index::new(),
-        }
+        let mut links = Links::blank();
+        links.follow(book);
+        links
     }
 
     // The nogoods from the place `from` on go into the index, behind those that it has.

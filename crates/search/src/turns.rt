@@ -1,11 +1,12 @@
 // One turn of a sitting: what remains, and then an end, a stop, or the first move that applies.
-ghost use Rattle.std.specs.Prelude.{◌≡◌, ℕ, ◌+◌, ◌*◌, ◌/◌, ◌<◌, ◌≤◌, true, false, List, length, take, drop, OnOk, OnErr, slice_index};
+ghost use Rattle.std.specs.Prelude.{◌≡◌, ℕ, ◌+◌, ◌*◌, ◌/◌, ◌<◌, ◌≤◌, true, false, List, [], None, length, take, drop, OnOk, OnErr, slice_index};
 ghost use Rattle.rules.specs.Meanings.{Meaning};
 ghost use Rattle.branching.specs.Channels.{Open};
 ghost use Rattle.std.specs.List.{AllByRecursion};
 ghost use Rattle.model.specs.Words.{branch_of, base_of, recorded};
 ghost use Rattle.model.specs.Moves.{nogoods};
 ghost use Rattle.propagation.specs.Bases.{Grouped};
+ghost use Rattle.propagation.specs.Chains.{link};
 ghost use Rattle.propagation.specs.Indexed.{Knows};
 ghost use Rattle.propagation.specs.Links.{Linked};
 ghost use Rattle.propagation.specs.Filtered.{Lives, Dies};
@@ -142,19 +143,21 @@ fn turn_alive<O: Order, P: RestartPolicy>(
     Step::Made(Move::Decide)
 }
 
-// The chains and the spreads of the book, and the index of the nogoods that are recorded.
-pub(crate) fn links_of<B: RuleBook>(book: &B, at: &Progress, base: &[u32]) -> Links
+// The chains and the spreads of the book, and the index of the nogoods that are recorded, go into blank links, which the caller has in their place.
+pub(crate) fn link_all<B: RuleBook>(links: &mut Links, book: &B, at: &Progress, base: &[u32])
+    requires wires { (p : ℕ) → link links.old.wires p ≡ None }
+    requires spreads { (g : ℕ) → slice_index links.old.spreads g ≡ 0 }
+    requires known { Knows [] links.old.index }
     requires groups { (B.meaning book.now).groups ≤ 200 }
     requires rules { (B.meaning book.now).count ≤ 4096 }
     requires used { at.now.base_used ≤ length base.now }
     requires short { length base.now ≤ 65536 }
     requires words { take at.now.base_used base.now ≡ recorded (base_of (take at.now.base_used base.now)) }
     requires small { AllByRecursion (Grouped 200) (base_of (take at.now.base_used base.now)) }
-    ensures { Linked (B.meaning book.now) (take at.now.base_used base.now) result }
+    ensures { Linked (B.meaning book.now) (take at.now.base_used base.now) links.new }
 {
-    let mut links = Links::new(book);
+    links.follow(book);
     links.add(&base[..at.base_used as usize], 0);
-    links
 }
 
 // What remains in the state that the numbers and the words stand for, unless it is dead; where that is at hand, from what remained before the newest decision.

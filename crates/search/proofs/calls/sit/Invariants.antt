@@ -4,7 +4,7 @@ use Rattle.search.specs.Regions.{SameRegions}
 use Rattle.search.specs.Families.{Remembers}
 use Rattle.search.specs.Sittings.{lent_in}
 use Rattle.search.proofs.Along.{Along}
-use Rattle.search.proofs.calls.sitting.Given as goal
+use Rattle.search.proofs.calls.sit.Given as goal
 
 abbrev pub invariant-moves : goal.invariant-moves
 invariant-moves g l =
